@@ -1,0 +1,32 @@
+-- A call's refusals, answered one by one.
+-- Assumes nothing.
+use mathlib.Core.Path.{_≡_, refl, sym}
+use mathlib.Core.Bool.{Bool, true, false, cond, _&&_}
+use mathlib.Core.List.{List, [], _∷_}
+use Rattle.laws.proofs.Branches.{cond-yes, cond-rest}
+use Rattle.laws.proofs.Cases.{both, join}
+use Rattle.answer.specs.declared.Refusal.{Refusal}
+use Rattle.answer.specs.Refusals.{refusing, allPass}
+
+pub refused : {A : Type 0} {b : Bool} (why y : A) → b ≡ false → why ≡ cond b y why
+refused why y p = cond-rest y p refl
+
+pub passed : {A : Type 0} {b : Bool} (why : A) {y a : A} → b ≡ true → a ≡ y → a ≡ cond b y why
+passed why p e = cond-yes why p e
+
+-- ---- a whole order
+
+pub none-refused : {A : Type 0} (refuse : Refusal → A) (tests : List (Bool × Refusal)) (a : A) → allPass tests ≡ true → refusing refuse tests a ≡ a
+none-refused refuse [] a e = refl
+none-refused refuse (test ∷ tests) a e =
+    let p = both (test .0) (allPass tests) e in
+    sym (passed (refuse (test .1)) (p .0) (sym (none-refused refuse tests a (p .1))))
+
+-- an answer that is no refusal: every test passed
+pub was-passed : {A : Type 0} (refuse : Refusal → A) (tests : List (Bool × Refusal)) (a v : A) → ((why : Refusal) → refuse why ≡ v → ⊥) → refusing refuse tests a ≡ v → (allPass tests ≡ true) × (a ≡ v)
+was-passed refuse [] a v n e = (refl, e)
+was-passed refuse (test ∷ tests) a v n e = go (test .0) refl e (λ q. was-passed refuse tests a v n q)
+  where
+    go : (b : Bool) → test .0 ≡ b → cond b (refusing refuse tests a) (refuse (test .1)) ≡ v → (refusing refuse tests a ≡ v → (allPass tests ≡ true) × (a ≡ v)) → ((test .0 && allPass tests) ≡ true) × (a ≡ v)
+    go true p q ih = let w = ih q in (join p (w .0), w .1)
+    go false p q ih = absurd (n (test .1) q)

@@ -1,0 +1,61 @@
+// Why a call is refused, and the one function that meets a lent buffer.
+// Every public call answers a value or one of the thirteen refusals, in an order that `refusing` of specs/ says.
+ghost use mathlib.Core.Path.{_≡_};
+ghost use mathlib.Core.List.{[]};
+ghost use Rattle.answer.specs.Refusals.{number};
+ghost use Rattle.answer.specs.Buffers.{written, bufferAfter};
+
+// Document 01's thirteen, in its order.
+pub enum Refusal {
+    Room,
+    Shape,
+    Year,
+    Date,
+    Clock,
+    NoSecond,
+    Range,
+    Ask,
+    Cut,
+    Groups,
+    Table,
+    Tail,
+    Number,
+}
+
+// How many bytes were written, or why none.
+pub enum Written {
+    Wrote(usize),
+    Refused(Refusal),
+}
+
+// Document 01's number of a refusal.
+pub fn number_of(why: Refusal) -> u32
+    ensures { λ r. ⌜ r ≡ number why ⌝ }
+{
+    match why {
+        Refusal::Room => 1,
+        Refusal::Shape => 2,
+        Refusal::Year => 3,
+        Refusal::Date => 4,
+        Refusal::Clock => 5,
+        Refusal::NoSecond => 6,
+        Refusal::Range => 7,
+        Refusal::Ask => 8,
+        Refusal::Cut => 9,
+        Refusal::Groups => 10,
+        Refusal::Table => 11,
+        Refusal::Tail => 12,
+        Refusal::Number => 13,
+    }
+}
+
+// Writes all bytes to the front of a lent buffer, or none where they are too many.
+pub fn write(bytes: &[u8], out: &mut [u8]) -> Written
+    ensures { λ r. ⌜ (r ≡ written [] (now (bytes .entry)) (now (out .entry))) × (now (out .exit) ≡ bufferAfter [] (now (bytes .entry)) (now (out .entry))) ⌝ }
+{
+    if out.len() < bytes.len() {
+        return Written::Refused(Refusal::Room);
+    }
+    bytes::copy(bytes, out);
+    Written::Wrote(bytes.len())
+}

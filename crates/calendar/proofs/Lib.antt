@@ -1,0 +1,4 @@
+pub mod Rule
+pub mod Laws
+pub mod Guess
+pub mod Years

@@ -1,0 +1,6 @@
+pub mod Cases
+pub mod Branches
+pub mod Difference
+pub mod Machine
+pub mod Tables
+pub mod Placed

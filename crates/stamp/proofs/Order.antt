@@ -1,0 +1,75 @@
+-- The order of labels is the order of their seconds.
+-- Assumes nothing.
+use mathlib.Core.Path.{_≡_, refl, sym, ap}
+use mathlib.Core.Logic.{_⊎_, inl, inr}
+use mathlib.Core.List.{List, [], _∷_}
+use Prim.Native.Nat.{ℕ, _+_, _-_, _*_, _<_}
+use native.Mathlib.Omega.{arith}
+use lib.ListN.{length, getD}
+use Rattle.laws.proofs.Cases.{lt-cases, by-order}
+use Rattle.laws.proofs.Difference.{up, down}
+use Rattle.calendar.specs.Calendar.{daysBefore, monthLength}
+use Rattle.stamp.specs.declared.Label.{Label}
+use Rattle.stamp.specs.Labels.{Offsets, label, monthOf, secondOf, Less, fields, Before}
+use Rattle.stamp.proofs.Turn.{Steps}
+use Rattle.stamp.proofs.Place.{before-later}
+use Rattle.stamp.proofs.Exists.{Exists, second-falls, at-end}
+
+-- second s of TAI, or of the uniform scale, is the label's
+abbrev pub Stands : Offsets → Label → ℕ → Type 0
+Stands o l s = s + down (o (monthOf l)) ≡ secondOf l + up (o (monthOf l))
+
+module _ (o : Offsets) (st : Steps o) (l l′ : Label) (e : Exists o l) (e′ : Exists o l′) (s s′ : ℕ) (h : Stands o l s) (h′ : Stands o l′ s′) where
+  by-month : monthOf l < monthOf l′ → s < s′
+  by-month p =
+      omega (arith, before-later o st s (monthOf l + 1) (monthOf l′) (omega arith) (second-falls o st l e s h .ends), second-falls o st l′ e′ s′ h′ .begun)
+
+  in-month : monthOf l ≡ monthOf l′ → 86400 * l .day + (3600 * l .hour + (60 * l .minute + l .second)) < 86400 * l′ .day + (3600 * l′ .hour + (60 * l′ .minute + l′ .second)) → s < s′
+  unfolding secondOf
+  in-month q p = omega (arith, ap daysBefore q, ap up (ap o q), ap down (ap o q), e .day-low, e′ .day-low)
+
+  by-minute : monthOf l ≡ monthOf l′ → 1440 * l .day + (60 * l .hour + l .minute) < 1440 * l′ .day + (60 * l′ .hour + l′ .minute) → s < s′
+  by-minute q p =
+      by-order (l .second) 60
+      (λ c. in-month q (omega arith))
+      (λ c. absurd (omega (arith, at-end o st l e s h c, ap monthLength q, e′ .day-high, e′ .hour-high, e′ .minute-high)))
+
+  pub order : Before l l′ → s < s′
+  unfolding Less
+  order (inl y) = by-month (omega (arith, e .month-low, e .month-high, e′ .month-low))
+  order (inr (y, inl mo)) = by-month (omega (arith, e .month-low))
+  order (inr (y, inr (mo, inl d))) = by-minute (omega arith) (omega (arith, e .hour-high, e .minute-high))
+  order (inr (y, inr (mo, inr (d, inl hr)))) = by-minute (omega arith) (omega (arith, e .minute-high))
+  order (inr (y, inr (mo, inr (d, inr (hr, inl mi))))) = by-minute (omega arith) (omega arith)
+  order (inr (y, inr (mo, inr (d, inr (hr, inr (mi, inl c)))))) = in-month (omega arith) (omega arith)
+  order (inr (y, inr (mo, inr (d, inr (hr, inr (mi, inr (c, n))))))) = absurd n
+
+-- of two lists of one length one is less, or they are equal
+tri : (xs ys : List ℕ) → length xs ≡ length ys → Less xs ys ⊎ ((xs ≡ ys) ⊎ Less ys xs)
+unfolding Less
+tri [] [] e = inr (inl refl)
+tri [] (y ∷ ys) e = absurd (omega arith)
+tri (x ∷ xs) [] e = absurd (omega arith)
+tri (x ∷ xs) (y ∷ ys) e = go (lt-cases x y) (tri xs ys (omega arith))
+  where
+    go : (x < y) ⊎ ((x ≡ y) ⊎ (y < x)) → Less xs ys ⊎ ((xs ≡ ys) ⊎ Less ys xs) → Less (x ∷ xs) (y ∷ ys) ⊎ (((x ∷ xs) ≡ (y ∷ ys)) ⊎ Less (y ∷ ys) (x ∷ xs))
+    go (inl h) r = inl (inl h)
+    go (inr (inr h)) r = inr (inr (inl h))
+    go (inr (inl q)) (inl r) = inl (inr (q, r))
+    go (inr (inl q)) (inr (inl r)) = inr (inl (cc))
+    go (inr (inl q)) (inr (inr r)) = inr (inr (inr (sym q, r)))
+
+ofFields : List ℕ → Label
+ofFields f = label (getD f 0 0) (getD f 1 0) (getD f 2 0) (getD f 3 0) (getD f 4 0) (getD f 5 0)
+
+pub order-back : (o : Offsets) → Steps o → (l l′ : Label) → Exists o l → Exists o l′ → (s s′ : ℕ) → Stands o l s → Stands o l′ s′ → s < s′ → Before l l′
+unfolding ofFields
+order-back o st l l′ e e′ s s′ h h′ p = go (tri (fields l) (fields l′) refl)
+  where
+    go : Before l l′ ⊎ ((fields l ≡ fields l′) ⊎ Before l′ l) → Before l l′
+    go (inl b) = b
+    go (inr (inl q)) =
+        let same : l ≡ l′ = ap ofFields q in
+        let m = ap monthOf same in
+        absurd (omega (arith, ap secondOf same, ap up (ap o m), ap down (ap o m)))
+    go (inr (inr b)) = absurd (omega (arith, order o st l′ l e′ e s′ s h′ h b))

@@ -1,0 +1,97 @@
+-- Labels: which exist, and the second that each stands for.
+-- Assumes nothing.
+use mathlib.Core.Path.{_≡_}
+use mathlib.Core.Logic.{_⊎_}
+use mathlib.Core.Bool.{Bool, cond, _&&_}
+use mathlib.Core.List.{List, [], _∷_}
+use Prim.Native.Nat.{ℕ, _+_, _*_, _-_, _<_}
+use lib.Dec.{eqb, leb, ltb}
+use lib.IntN.{ℤ, pos}
+use lib.Signed.{ltZ}
+use Rattle.answer.specs.declared.Refusal.{Refusal}
+use Rattle.answer.specs.declared.Refusal.the-variants.{Year as YEAR, Date as DATE, Clock as CLOCK, NoSecond as NOSECOND}
+use Rattle.answer.specs.Refusals.{allPass}
+use Rattle.calendar.specs.Calendar.{monthLength, daysBefore}
+use Rattle.stamp.specs.declared.Label.{Label}
+use Rattle.stamp.specs.declared.Reading.{Reading}
+
+abbrev pub label : ℕ → ℕ → ℕ → ℕ → ℕ → ℕ → Label
+label y mo d h mi s = record { year = y; month = mo; day = d; hour = h; minute = mi; second = s }
+
+-- TAI less the scale in each month, in seconds: TAI-UTC for UTC, 0 for a uniform scale.
+abbrev pub Offsets : Type 0
+Offsets = ℕ → ℤ
+
+abbrev pub uniform : Offsets
+uniform m = pos 0
+
+-- ---- which labels exist
+
+-- the seconds of the last minute of a month: one more where the next month's offset is higher, one less where it is lower
+unfoldable pub lastMinute : ℤ → ℤ → ℕ
+lastMinute here next = cond (ltZ here next) 61 (cond (ltZ next here) 59 60)
+
+-- the label's month, counted from January of year 0
+abbrev pub monthOf : Label → ℕ
+monthOf l = 12 * l .year + (l .month - 1)
+
+-- the label stands in the last minute of its month
+abbrev pub inLastMinute : Label → Bool
+inLastMinute l = eqb (l .day) (monthLength (monthOf l)) && (eqb (l .hour) 23 && eqb (l .minute) 59)
+
+-- the seconds of the label's minute
+unfoldable pub minuteIn : ℤ → ℤ → Label → ℕ
+minuteIn here next l = cond (inLastMinute l) (lastMinute here next) 60
+
+abbrev pub minuteLength : Offsets → Label → ℕ
+minuteLength o l = minuteIn (o (monthOf l)) (o (monthOf l + 1)) l
+
+unfoldable pub realYear : Label → Bool
+realYear l = leb 1972 (l .year) && leb (l .year) 9999
+
+unfoldable pub realMonth : Label → Bool
+realMonth l = leb 1 (l .month) && leb (l .month) 12
+
+unfoldable pub realDay : Label → Bool
+realDay l = leb 1 (l .day) && leb (l .day) (monthLength (monthOf l))
+
+unfoldable pub realClock : ℕ → Reading → Bool
+realClock most r = leb (r .label .hour) 23 && (leb (r .label .minute) 59 && (leb (r .label .second) most && leb (r .micro) 999999))
+
+-- the scale has the label's second
+unfoldable pub hasSecond : Offsets → Label → Bool
+hasSecond o l = ltb (l .second) (minuteLength o l)
+
+-- what is asked of a reading, in this order; `most` is the highest second that the scale may have
+abbrev pub asked : Offsets → ℕ → Reading → List (Bool × Refusal)
+asked o most r =
+    (realYear (r .label), YEAR) ∷ (realMonth (r .label), DATE) ∷ (realDay (r .label), DATE) ∷ (realClock most r, CLOCK) ∷ (hasSecond o (r .label), NOSECOND) ∷ []
+
+-- the reading exists
+abbrev pub admitted : Offsets → ℕ → Reading → Bool
+admitted o most r = allPass (asked o most r)
+
+-- ---- its second
+
+abbrev pub timeOfDay : Label → ℕ
+timeOfDay l = 3600 * l .hour + (60 * l .minute + l .second)
+
+-- counted from the first of year 0, each day 86,400 seconds
+unfoldable pub secondOf : Label → ℕ
+secondOf l = 86400 * (daysBefore (monthOf l) + (l .day - 1)) + timeOfDay l
+
+-- ---- their order
+
+-- the first number that differs decides
+unfoldable pub Less : List ℕ → List ℕ → Type 0
+Less [] [] = ⊥
+Less [] (y ∷ ys) = ⊥
+Less (x ∷ xs) [] = ⊥
+Less (x ∷ xs) (y ∷ ys) = (x < y) ⊎ ((x ≡ y) × Less xs ys)
+
+-- the order of the calendar
+abbrev pub fields : Label → List ℕ
+fields l = l .year ∷ l .month ∷ l .day ∷ l .hour ∷ l .minute ∷ l .second ∷ []
+
+abbrev pub Before : Label → Label → Type 0
+Before l l′ = Less (fields l) (fields l′)
