@@ -5,32 +5,30 @@ use mathlib.Core.List.{List}
 use Prim.Native.Nat.{ℕ, zero, suc, _+_, _-_, _≤_, _<_}
 use native.Mathlib.Omega.{arith}
 use borrow.Author.Tests.{le-leb, lt-leb}
-use lib.Dec.{leb}
 use lib.ListN.{getD}
-use Rattle.laws.proofs.Cases.{pick}
+use Rattle.laws.proofs.Cases.{by-order}
 use Rattle.leap.specs.Leap.{epoch, lastBegun}
 
 module _ (months : List ℕ) (m : ℕ) where
-  pub begun-le : (k : ℕ) → lastBegun months m k ≤ k
-  unfolding lastBegun
-  begun-le zero = omega arith
-  begun-le (suc k) =
-      let h = begun-le k in
-      pick (λ (i : ℕ). i ≤ suc k) (leb (epoch + getD months (suc k) 0) m) (λ e. omega arith) (λ e. omega arith)
-
   pub begun-all : (k : ℕ) → epoch + getD months k 0 ≤ m → lastBegun months m k ≡ k
   unfolding lastBegun
   begun-all zero h = refl
   begun-all (suc k) h = rw (le-leb (epoch + getD months (suc k) 0) m h)
 
-  pub begun-before : (k : ℕ) → 0 < k → m < epoch + getD months k 0 → lastBegun months m k ≡ lastBegun months m (k - 1)
+  pub begun-less : (k : ℕ) → m < epoch + getD months (suc k) 0 → lastBegun months m (suc k) ≡ lastBegun months m k
   unfolding lastBegun
-  begun-before zero g l = absurd (omega arith)
-  begun-before (suc k) g l =
-      let e : suc k - 1 ≡ k = omega arith in
-      rw (e, lt-leb (epoch + getD months (suc k) 0) m l)
+  begun-less k h = rw (lt-leb (epoch + getD months (suc k) 0) m h)
+
+  pub begun-before : (k : ℕ) → 0 < k → m < epoch + getD months k 0 → lastBegun months m k ≡ lastBegun months m (k - 1)
+  begun-before zero g h = absurd (omega arith)
+  begun-before (suc k) g h = let e : suc k - 1 ≡ k = omega arith in rw e (begun-less k h)
 
   pub begun-first : (k : ℕ) → k ≤ 0 → lastBegun months m k ≡ 0
   unfolding lastBegun
   begun-first zero h = refl
   begun-first (suc k) h = absurd (omega arith)
+
+  pub begun-le : (k : ℕ) → lastBegun months m k ≤ k
+  begun-le zero = omega (arith, begun-first 0 (omega arith))
+  begun-le (suc k) =
+      by-order m (epoch + getD months (suc k) 0) (λ h. omega (arith, begun-less k h, begun-le k)) (λ h. omega (arith, begun-all (suc k) h))

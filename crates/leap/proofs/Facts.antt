@@ -1,18 +1,20 @@
--- What the tests of a table say, as facts about its entries.
+-- What the check of a table says, as facts about its entries, both ways.
 -- Assumes nothing.
-use mathlib.Core.Path.{_≡_}
-use mathlib.Core.Logic.{_⊎_, ⊎-map}
+use mathlib.Core.Path.{_≡_, sym, subst, _∙_}
+use mathlib.Core.Logic.{_⊎_, inl, inr, ⊎-map}
 use mathlib.Core.Bool.{true, _&&_}
-use Prim.Native.Nat.{ℕ, _+_, _≤_, _<_}
+use Prim.Native.Nat.{ℕ, zero, suc, _+_, _≤_, _<_}
+use native.Mathlib.Numerals.{add-one}
 use native.Mathlib.Omega.{arith}
-use borrow.Author.Tests.{leb-true, ltb-true, eqb-true, lt-ltb}
-use lib.Dec.{leb, ltb}
+use borrow.Author.Tests.{leb-true, ltb-true, eqb-true, lt-ltb, le-leb, eq-eqb}
+use lib.Dec.{leb, ltb, eqb}
 use lib.IntN.{ℤ, pos, sucℤ}
 use Rattle.laws.specs.Tests.{eqZ}
-use Rattle.laws.proofs.Cases.{and-l, and-r, one-of, below}
-use Rattle.laws.proofs.Machine.{eqZ-true}
+use Rattle.laws.proofs.Cases.{and-l, and-r, one-of, or-l, or-r, join, below, all-below, by-order}
+use Rattle.laws.proofs.Machine.{eqZ-true, eqZ-eq}
 use Rattle.leap.specs.declared.Table.{Table}
-use Rattle.leap.specs.Leap.{entryMonth, entryOffset, oneApart, firstRight, nextRight, allRight, accepted}
+use Rattle.leap.specs.Leap.{entryMonth, entryOffset, oneApart, laterRight, placeRight, accepted}
+use Rattle.leap.proofs.Places.{later-is, unused-is}
 
 pub record Accepted (t : Table) : Type 0 where
   pub some-entry : 0 < t .count
@@ -22,33 +24,59 @@ pub record Accepted (t : Table) : Type 0 where
   pub rising : (k : ℕ) → k + 1 < t .count → entryMonth t k < entryMonth t (k + 1)
   pub inside : (k : ℕ) → k + 1 < t .count → entryMonth t (k + 1) ≤ 96335
   pub step : (k : ℕ) → k + 1 < t .count → (entryOffset t (k + 1) ≡ sucℤ (entryOffset t k)) ⊎ (entryOffset t k ≡ sucℤ (entryOffset t (k + 1)))
+  pub unused : (k : ℕ) → t .count ≤ k → k < 64 → (entryMonth t k ≡ 0) × (entryOffset t k ≡ pos 0)
 
-apart : (a b : ℤ) → oneApart a b ≡ true → (b ≡ sucℤ a) ⊎ (a ≡ sucℤ b)
+-- ---- a place, its month m and its offset o
+
+zero-to : (m : ℕ) (o z : ℤ) → (eqb m 0 && eqZ o z) ≡ true → (m ≡ 0) × (o ≡ z)
+zero-to m o z e = (eqb-true m 0 (and-l (eqb m 0) (eqZ o z) e), eqZ-true o z (and-r (eqb m 0) (eqZ o z) e))
+
+zero-from : {m : ℕ} {o z : ℤ} → (m ≡ 0) × (o ≡ z) → (eqb m 0 && eqZ o z) ≡ true
+zero-from (p, q) = join (eq-eqb _ _ p) (eqZ-eq q)
+
+apart-to : (o o′ : ℤ) → oneApart o o′ ≡ true → (o′ ≡ sucℤ o) ⊎ (o ≡ sucℤ o′)
 unfolding oneApart
-apart a b e = ⊎-map (eqZ-true b (sucℤ a)) (eqZ-true a (sucℤ b)) (one-of (eqZ b (sucℤ a)) (eqZ a (sucℤ b)) e)
+apart-to o o′ e = ⊎-map (eqZ-true o′ (sucℤ o)) (eqZ-true o (sucℤ o′)) (one-of (eqZ o′ (sucℤ o)) (eqZ o (sucℤ o′)) e)
 
-pub accepted-to : (t : Table) → accepted t ≡ true → Accepted t
-unfolding accepted firstRight allRight nextRight
-accepted-to t e =
-    record { some-entry = search (and-l, leb-true); few = search (and-l, and-r, leb-true); month-zero = month-zero; ten = eqZ-true _ _ (search (and-l, and-r)); rising = λ k h. let p = rises k h in search (and-l, ltb-true); inside = λ k h. let p = rises k h in search (and-l, and-r, leb-true); step = λ k h. let p = rises k h in apart _ _ (search (and-l, and-r)) }
-  where
-    first : firstRight (entryMonth t 0) (entryOffset t 0) ≡ true
-    first = search (and-l, and-r)
+apart-from : (o o′ : ℤ) → (o′ ≡ sucℤ o) ⊎ (o ≡ sucℤ o′) → oneApart o o′ ≡ true
+unfolding oneApart
+apart-from o o′ (inl q) = or-l (eqZ o (sucℤ o′)) (eqZ-eq q)
+apart-from o o′ (inr q) = or-r (eqZ o′ (sucℤ o)) (eqZ-eq q)
 
-    month-zero : entryMonth t 0 ≡ 0
-    month-zero = eqb-true (entryMonth t 0) 0 (and-l _ (eqZ (entryOffset t 0) (pos 10)) first)
+later-to : (m : ℕ) (o : ℤ) (m′ : ℕ) (o′ : ℤ) → laterRight m o m′ o′ ≡ true → (m < m′) × ((m′ ≤ 96335) × ((o′ ≡ sucℤ o) ⊎ (o ≡ sucℤ o′)))
+later-to m o m′ o′ e = let h : (leb m′ 96335 && oneApart o o′) ≡ true = and-r (ltb m m′) _ e in (search (and-l, ltb-true), (search (and-l, leb-true), apart-to o o′ (and-r (leb m′ 96335) _ h)))
 
-    at-most : t .count ≤ 64
-    at-most = search (and-l, and-r, leb-true)
+-- ---- a table
 
-    all : allRight t 63 ≡ true
-    all = search (and-l, and-r)
+module _ (t : Table) where
+  pub count-to : accepted t ≡ true → (1 ≤ t .count) × (t .count ≤ 64)
+  unfolding accepted
+  count-to e = search (and-l, and-r, leb-true)
 
-    rises : (k : ℕ) → k + 1 < t .count → (ltb (entryMonth t k) (entryMonth t (k + 1)) && (leb (entryMonth t (k + 1)) 96335 && oneApart (entryOffset t k) (entryOffset t (k + 1)))) ≡ true
-    rises k h =
-        let p = below _ 63 all k (omega (arith, at-most)) in
-        rw (lt-ltb (k + 1) (t .count) h) at p
+  pub accepted-to : accepted t ≡ true → Accepted t
+  unfolding accepted placeRight
+  accepted-to e =
+      let z = zero-to _ _ _ (right 0 (omega arith)) in
+      record { some-entry = counted .0; few = counted .1; month-zero = z .0; ten = z .1; rising = λ k h. later k h .0; inside = λ k h. later k h .1 .0; step = λ k h. later k h .1 .1; unused = λ k h l. zero-to _ _ _ (unused-is t k (omega (arith, counted)) h ∙ right k l) }
+    where
+      counted : (1 ≤ t .count) × (t .count ≤ 64)
+      counted = count-to e
 
-pub count-to : (t : Table) → accepted t ≡ true → (1 ≤ t .count) × (t .count ≤ 64)
-unfolding accepted
-count-to t e = search (and-l, and-r, leb-true)
+      right : (k : ℕ) → k < 64 → placeRight t k ≡ true
+      right = below (placeRight t) 64 (search (and-r))
+
+      later : (k : ℕ) → k + 1 < t .count → (entryMonth t k < entryMonth t (k + 1)) × ((entryMonth t (k + 1) ≤ 96335) × ((entryOffset t (k + 1) ≡ sucℤ (entryOffset t k)) ⊎ (entryOffset t k ≡ sucℤ (entryOffset t (k + 1)))))
+      later k h = later-to (entryMonth t k) (entryOffset t k) (entryMonth t (k + 1)) (entryOffset t (k + 1)) (later-is t k h ∙ right (k + 1) (omega (arith, counted)))
+
+  pub accepted-from : Accepted t → accepted t ≡ true
+  unfolding accepted placeRight
+  accepted-from a = join (le-leb _ _ (a .some-entry)) (join (le-leb _ _ (a .few)) (all-below (placeRight t) 64 right))
+    where
+      later : (k : ℕ) → k + 1 < t .count → placeRight t (k + 1) ≡ true
+      later k h = sym (later-is t k h) ∙ join (lt-ltb _ _ (a .rising k h)) (join (le-leb _ _ (a .inside k h)) (apart-from _ _ (a .step k h)))
+
+      right : (k : ℕ) → k < 64 → placeRight t k ≡ true
+      right zero l = zero-from (a .month-zero, a .ten)
+      right (suc k) l =
+          by-order (suc k) (t .count) (λ h. subst (λ (j : ℕ). placeRight t j ≡ true) (add-one k) (later k (omega arith)))
+          (λ h. sym (unused-is t (suc k) (omega arith) h) ∙ zero-from (a .unused (suc k) h l))

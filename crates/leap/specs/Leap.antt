@@ -1,48 +1,59 @@
--- The leap table: which tables are accepted, and TAI-UTC by months.
+-- The leap table: which tables are accepted, TAI-UTC by months, and the table of Bulletin C.
 -- Assumes nothing.
-use mathlib.Core.Bool.{Bool, true, false, cond, _&&_, _||_}
+use mathlib.Core.Bool.{Bool, cond, _&&_, _||_}
 use mathlib.Core.List.{List, [], _∷_, _++_}
-use Prim.Native.Nat.{ℕ, zero, suc, _+_, _-_, min}
+use Prim.Native.Nat.{ℕ, zero, suc, _+_, _-_, _*_, min}
 use lib.Dec.{leb, ltb, eqb}
 use lib.IntN.{ℤ, pos, sucℤ}
 use lib.ListN.{length, getD, replicate}
 use Rattle.laws.specs.Tests.{eqZ, allBelow}
 use Rattle.leap.specs.declared.Table.{Table}
 
+-- a table of n entries in these months with these offsets
 abbrev pub tabled : ℕ → List ℕ → List ℤ → Table
 tabled n ms os = record { count = n; months = ms; offsets = os }
 
 -- ---- an accepted table
 
+-- the month number of entry k, where January 1972 is 0
 abbrev pub entryMonth : Table → ℕ → ℕ
 entryMonth t k = getD (t .months) k 0
 
+-- its TAI-UTC in whole seconds, from the first day of that month
 abbrev pub entryOffset : Table → ℕ → ℤ
 entryOffset t k = getD (t .offsets) k (pos 0)
 
-unfoldable pub oneApart : ℤ → ℤ → Bool
-oneApart a b = eqZ b (sucℤ a) || eqZ a (sucℤ b)
-
 -- the first entry is month 0 with 10
-unfoldable pub firstRight : ℕ → ℤ → Bool
+abbrev pub firstRight : ℕ → ℤ → Bool
 firstRight m o = eqb m 0 && eqZ o (pos 10)
 
--- a later entry rises, stays before year 10000 and steps by one; a place that is not used is zero
-unfoldable pub nextRight : Bool → ℕ → ℤ → ℕ → ℤ → Bool
-nextRight true m o m′ o′ = ltb m m′ && (leb m′ 96335 && oneApart o o′)
-nextRight false m o m′ o′ = eqb m′ 0 && eqZ o′ (pos 0)
+-- each offset differs from the one before by exactly +1 or -1
+unfoldable pub oneApart : ℤ → ℤ → Bool
+oneApart o o′ = eqZ o′ (sucℤ o) || eqZ o (sucℤ o′)
 
--- so are the places 1 to n
-unfoldable pub allRight : Table → ℕ → Bool
-allRight t n =
-    allBelow (λ k. nextRight (ltb (k + 1) (t .count)) (entryMonth t k) (entryOffset t k) (entryMonth t (k + 1)) (entryOffset t (k + 1))) n
+-- an entry of month m′ after one of month m: months rise strictly, up to December 9999, and the offsets are one apart
+abbrev pub laterRight : ℕ → ℤ → ℕ → ℤ → Bool
+laterRight m o m′ o′ = ltb m m′ && (leb m′ 96335 && oneApart o o′)
 
+-- unused places are zero
+abbrev pub unusedRight : ℕ → ℤ → Bool
+unusedRight m o = eqb m 0 && eqZ o (pos 0)
+
+-- place k is right: the first entry, or a later one after the entry before it, or unused
+unfoldable pub placeRight : Table → ℕ → Bool
+placeRight t zero = firstRight (entryMonth t 0) (entryOffset t 0)
+placeRight t (suc k) =
+    cond (ltb (suc k) (t .count))
+    (laterRight (entryMonth t k) (entryOffset t k) (entryMonth t (suc k)) (entryOffset t (suc k)))
+    (unusedRight (entryMonth t (suc k)) (entryOffset t (suc k)))
+
+-- 1 to 64 entries, and each of the 64 places is right
 unfoldable pub accepted : Table → Bool
-accepted t = leb 1 (t .count) && (leb (t .count) 64 && (firstRight (entryMonth t 0) (entryOffset t 0) && allRight t 63))
+accepted t = leb 1 (t .count) && (leb (t .count) 64 && allBelow (placeRight t) 64)
 
 -- ---- TAI-UTC
 
--- January 1972, the table's month 0, among the calendar's months
+-- January 1972, the table's month 0, among the calendar's months from January of year 0
 abbrev pub epoch : ℕ
 epoch = 23664
 
@@ -51,11 +62,11 @@ unfoldable pub lastBegun : List ℕ → ℕ → ℕ → ℕ
 lastBegun months m zero = 0
 lastBegun months m (suc k) = cond (leb (epoch + getD months (suc k) 0) m) (suc k) (lastBegun months m k)
 
--- the last place of n, of which a table has no more than 64
+-- the last place of n entries, of which a table has no more than 64
 abbrev pub top : ℕ → ℕ
 top n = min n 64 - 1
 
--- TAI-UTC in the calendar's month m
+-- TAI-UTC in the calendar's month m: that of the last entry that has begun
 unfoldable pub offsetAt : Table → ℕ → ℤ
 offsetAt t m = entryOffset t (lastBegun (t .months) m (top (t .count)))
 
@@ -66,9 +77,23 @@ abbrev pub rising : ℕ → ℕ → List ℤ
 rising zero z = []
 rising (suc n) z = pos z ∷ rising n (suc z)
 
--- a table of these entries
+-- a table of these entries, its unused places zero
 abbrev pub filled : List ℕ → List ℤ → Table
 filled ms os = tabled (length ms) (ms ++ replicate (64 - length ms) 0) (os ++ replicate (64 - length ms) (pos 0))
 
+-- the month numbers of a year's January and July
+abbrev pub january : ℕ → ℕ
+january year = 12 * (year - 1972)
+
+abbrev pub july : ℕ → ℕ
+july year = january year + 6
+
+-- the table of Bulletin C, 28 entries: 10 in January 1972, and each entry after it one more
 abbrev pub bulletinC : Table
-bulletinC = filled (0 ∷ 6 ∷ 12 ∷ 24 ∷ 36 ∷ 48 ∷ 60 ∷ 72 ∷ 84 ∷ 96 ∷ 114 ∷ 126 ∷ 138 ∷ 162 ∷ 192 ∷ 216 ∷ 228 ∷ 246 ∷ 258 ∷ 270 ∷ 288 ∷ 306 ∷ 324 ∷ 408 ∷ 444 ∷ 486 ∷ 522 ∷ 540 ∷ []) (rising 28 10)
+bulletinC =
+    filled
+    (january 1972 ∷ july 1972 ∷ january 1973 ∷ january 1974 ∷ january 1975 ∷ january 1976 ∷ january 1977
+    ∷ january 1978 ∷ january 1979 ∷ january 1980 ∷ july 1981 ∷ july 1982 ∷ july 1983 ∷ july 1985
+    ∷ january 1988 ∷ january 1990 ∷ january 1991 ∷ july 1992 ∷ july 1993 ∷ july 1994 ∷ january 1996
+    ∷ july 1997 ∷ january 1999 ∷ january 2006 ∷ january 2009 ∷ july 2012 ∷ july 2015 ∷ january 2017 ∷ [])
+    (rising 28 10)

@@ -1,11 +1,13 @@
 // The leap table: which tables are accepted, TAI-UTC by months, and the table of Bulletin C.
 // Inside, the arrays are lent: a struct that holds them is copied at every call that takes it.
+mod bulletin;
+
 ghost use mathlib.Core.Path.{_≡_};
-ghost use Prim.Native.Nat.{_+_, _-_, _<_};
+ghost use Prim.Native.Nat.{_+_, _≤_, _<_};
 ghost use lib.IntN.{sucℤ};
 ghost use lib.Dec.{leb};
-ghost use Rattle.laws.specs.Tests.{eqZ};
-ghost use Rattle.leap.specs.Leap.{tabled, oneApart, nextRight, firstRight, allRight, accepted, lastBegun, offsetAt, top, bulletinC};
+ghost use Rattle.laws.specs.Tests.{eqZ, allBelow};
+ghost use Rattle.leap.specs.Leap.{tabled, oneApart, firstRight, laterRight, unusedRight, placeRight, accepted, lastBegun, offsetAt, top, bulletinC};
 
 // `count` entries, each a month (January 1972 is 0) and TAI-UTC in seconds from its first day. Unused places are zero.
 pub struct Table {
@@ -14,87 +16,88 @@ pub struct Table {
     pub offsets: [i32; 64],
 }
 
-// ---- the check
+// ---- the check: one place at a time on plain numbers, and a flag in each loop, so that the loops compile to vectors
 
-fn same(a: i32, b: i32) -> bool
-    ensures { λ r. ⌜ r ≡ eqZ a b ⌝ }
+// Only the lesser of two numbers is raised by one, so the sum fits.
+fn one_above(low: i32, high: i32) -> bool
+    ensures { λ r. ⌜ r ≡ eqZ high (sucℤ low) ⌝ }
 {
-    a == b
-}
-
-fn one_more(a: i32, b: i32) -> bool
-    ensures { λ r. ⌜ r ≡ eqZ b (sucℤ a) ⌝ }
-{
-    let x = a as i64;
-    let y = b as i64;
-    y == x + 1
+    if low < high {
+        return high == low + 1;
+    }
+    false
 }
 
 fn one_apart(a: i32, b: i32) -> bool
     ensures { λ r. ⌜ r ≡ oneApart a b ⌝ }
 {
-    if one_more(a, b) {
-        return true;
-    }
-    one_more(b, a)
-}
-
-// A place in use or not, and the place before it.
-fn next_right(used: bool, prior: u32, before: i32, month: u32, offset: i32) -> bool
-    ensures { λ r. ⌜ r ≡ nextRight used prior before month offset ⌝ }
-{
-    if !used {
-        if month != 0 {
-            return false;
-        }
-        return same(offset, 0);
-    }
-    if month <= prior {
-        return false;
-    }
-    if 96335 < month {
-        return false;
-    }
-    one_apart(before, offset)
+    one_above(a, b) | one_above(b, a)
 }
 
 fn first_right(month: u32, offset: i32) -> bool
     ensures { λ r. ⌜ r ≡ firstRight month offset ⌝ }
 {
-    if month != 0 {
-        return false;
-    }
-    same(offset, 10)
+    (month == 0) & (offset == 10)
 }
 
-fn all_right<'a>(n: usize, months: &'a [u32; 64], offsets: &'a [i32; 64]) -> bool
-    ensures { λ r. ⌜ r ≡ allRight (tabled n (now (months .entry)) (now (offsets .entry))) 63 ⌝ }
+// An entry after the one in month `prior` with offset `before`.
+fn later_right(prior: u32, before: i32, month: u32, offset: i32) -> bool
+    ensures { λ r. ⌜ r ≡ laterRight prior before month offset ⌝ }
 {
+    (prior < month) & ((month <= 96335) & one_apart(before, offset))
+}
+
+fn unused_right(month: u32, offset: i32) -> bool
+    ensures { λ r. ⌜ r ≡ unusedRight month offset ⌝ }
+{
+    (month == 0) & (offset == 0)
+}
+
+// The first entry, and each later one after the entry before it.
+fn used_right<'a>(count: usize, months: &'a [u32; 64], offsets: &'a [i32; 64]) -> bool
+    requires { ⌜ (1 ≤ count) × (count ≤ 64) ⌝ }
+    ensures { λ r. ⌜ r ≡ allBelow (placeRight (tabled count (now (months .entry)) (now (offsets .entry)))) count ⌝ }
+{
+    let mut ok = first_right(months[0], offsets[0]);
     let mut k = 0;
-    while k < 63 {
-        let used = k + 1 < n;
-        if !next_right(used, months[k], offsets[k], months[k + 1], offsets[k + 1]) {
-            return false;
-        }
+    while k + 1 < count {
+        ok = ok & later_right(months[k], offsets[k], months[k + 1], offsets[k + 1]);
         k += 1;
     }
-    true
+    ok
+}
+
+// The places in use, and then the unused ones.
+fn all_right<'a>(count: usize, months: &'a [u32; 64], offsets: &'a [i32; 64]) -> bool
+    requires { ⌜ (1 ≤ count) × (count ≤ 64) ⌝ }
+    ensures { λ r. ⌜ r ≡ allBelow (placeRight (tabled count (now (months .entry)) (now (offsets .entry)))) 64 ⌝ }
+{
+    let mut ok = used_right(count, months, offsets);
+    let mut k = count;
+    while k < 64 {
+        ok = ok & unused_right(months[k], offsets[k]);
+        k += 1;
+    }
+    ok
+}
+
+// For callers that hold the arrays and no table.
+pub fn is_accepted_in<'a>(count: usize, months: &'a [u32; 64], offsets: &'a [i32; 64]) -> bool
+    ensures { λ r. ⌜ r ≡ accepted (tabled count (now (months .entry)) (now (offsets .entry))) ⌝ }
+{
+    if count < 1 {
+        return false;
+    }
+    if 64 < count {
+        return false;
+    }
+    all_right(count, months, offsets)
 }
 
 pub fn is_accepted(t: Table) -> bool
     ensures { λ r. ⌜ r ≡ accepted t ⌝ }
 {
-    let n = t.count;
-    if n < 1 {
-        return false;
-    }
-    if 64 < n {
-        return false;
-    }
-    if !first_right(t.months[0], t.offsets[0]) {
-        return false;
-    }
-    all_right(n, &t.months, &t.offsets)
+    is_accepted_in(t.count, &t.months, &t.offsets)
 }
 
 // ---- TAI-UTC
@@ -124,7 +127,7 @@ fn last_begun(months: &[u32; 64], from: usize, m: u32) -> usize
 fn top_of(count: usize) -> usize
     ensures { λ r. ⌜ (r ≡ top count) × (r < 64) ⌝ }
 {
-    if 64 < count {
+    if 63 < count {
         return 63;
     }
     if count < 1 {
@@ -148,137 +151,7 @@ pub fn bulletin_c() -> Table
 {
     Table {
         count: 28,
-        months: [
-            0,
-            6,
-            12,
-            24,
-            36,
-            48,
-            60,
-            72,
-            84,
-            96,
-            114,
-            126,
-            138,
-            162,
-            192,
-            216,
-            228,
-            246,
-            258,
-            270,
-            288,
-            306,
-            324,
-            408,
-            444,
-            486,
-            522,
-            540,
-            0,
-            0,
-            0,
-            0,
-            0,
-            0,
-            0,
-            0,
-            0,
-            0,
-            0,
-            0,
-            0,
-            0,
-            0,
-            0,
-            0,
-            0,
-            0,
-            0,
-            0,
-            0,
-            0,
-            0,
-            0,
-            0,
-            0,
-            0,
-            0,
-            0,
-            0,
-            0,
-            0,
-            0,
-            0,
-            0,
-        ],
-        offsets: [
-            10,
-            11,
-            12,
-            13,
-            14,
-            15,
-            16,
-            17,
-            18,
-            19,
-            20,
-            21,
-            22,
-            23,
-            24,
-            25,
-            26,
-            27,
-            28,
-            29,
-            30,
-            31,
-            32,
-            33,
-            34,
-            35,
-            36,
-            37,
-            0,
-            0,
-            0,
-            0,
-            0,
-            0,
-            0,
-            0,
-            0,
-            0,
-            0,
-            0,
-            0,
-            0,
-            0,
-            0,
-            0,
-            0,
-            0,
-            0,
-            0,
-            0,
-            0,
-            0,
-            0,
-            0,
-            0,
-            0,
-            0,
-            0,
-            0,
-            0,
-            0,
-            0,
-            0,
-            0,
-        ],
+        months: bulletin::MONTHS,
+        offsets: bulletin::OFFSETS,
     }
 }

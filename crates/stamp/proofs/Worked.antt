@@ -3,11 +3,11 @@
 use mathlib.Core.Path.{refl}
 use Rattle.laws.specs.Tests.{eqZ, allBelow}
 use Rattle.calendar.specs.Calendar.{leapYear, monthLength, daysBefore}
-use Rattle.leap.specs.Leap.{oneApart, firstRight, nextRight, allRight, accepted, lastBegun, offsetAt}
+use Rattle.leap.specs.Leap.{oneApart, placeRight, accepted, lastBegun, offsetAt}
 use Rattle.stamp.specs.Labels.{lastMinute, minuteIn, realYear, realMonth, realDay, realClock, hasSecond, secondOf}
 use Rattle.stamp.specs.Instants.{instantAt, instantAnswer}
 use Rattle.stamp.specs.Desk.{rows, AllRight}
 
 pub worked : AllRight rows
-unfolding eqZ allBelow leapYear monthLength daysBefore oneApart firstRight nextRight allRight accepted lastBegun offsetAt lastMinute minuteIn realYear realMonth realDay realClock hasSecond secondOf instantAt instantAnswer
+unfolding eqZ allBelow leapYear monthLength daysBefore oneApart placeRight accepted lastBegun offsetAt lastMinute minuteIn realYear realMonth realDay realClock hasSecond secondOf instantAt instantAnswer
 worked = (refl, (refl, (refl, (refl, (refl, (refl, (refl, (refl, (refl, (refl, tt))))))))))

@@ -1,0 +1,19 @@
+-- The count, and then every place.
+-- Assumes nothing.
+use native.Mathlib.Omega.{arith}
+use borrow.Author.Needs.{needs}
+use borrow.Author.Tests.{le-leb, lt-leb}
+use Rattle.laws.proofs.Branches.{and-no, and-rest}
+use Rattle.leap.specs.Leap.{accepted}
+use Rattle.leap.proofs.is_accepted_in.Statement.{statement}
+use Rattle.leap.proofs.is_accepted_in.Tie as tie
+
+pub is-accepted-in-spec : {M : Type 1} → statement M
+unfolding accepted
+is-accepted-in-spec =
+    tie.close
+    (tie.spec
+    (λ c. and-no _ (lt-leb _ _ (c .if1 .taken)))
+    (λ c. and-rest (le-leb _ _ (c .before .if1 .left)) (and-no _ (lt-leb (c .before .before .args .count) 64 (omega arith))))
+    (λ c κs. search needs)
+    (λ c. and-rest (le-leb _ _ (c .before .before .if1 .left)) (and-rest (le-leb _ _ (c .before .if2 .left)) (c .all-right .ensures))))
