@@ -4,10 +4,11 @@
 use mathlib.Core.Path.{_≡_, sym, ap, _∙_}
 use mathlib.Core.Logic.{_⊎_, inl, inr}
 use mathlib.Core.Bool.{Bool, true, false, not, cond, _&&_, _||_, and-false}
-use Prim.Native.Nat.{ℕ, zero, suc, _+_, _<_}
+use Prim.Native.Nat.{ℕ, zero, suc, _+_, _≤_, _<_}
 use native.Mathlib.Numerals.{add-one}
 use native.Mathlib.Omega.{arith}
-use borrow.Author.Tests.{not-true, not-false}
+use borrow.Author.Tests.{not-true, not-false, lt-ltb, le-ltb}
+use lib.Dec.{ltb}
 use Rattle.laws.specs.Tests.{allBelow}
 use Rattle.laws.proofs.Cases.{lt-cases}
 
@@ -28,6 +29,13 @@ cond-yes y p q = rw p q
 
 pub cond-rest : {A : Type 0} {b : Bool} {r : A} (x : A) {y : A} → b ≡ false → r ≡ y → r ≡ cond b x y
 cond-rest x p q = rw p q
+
+-- a choice by an order
+pub if-less : {A : Type 0} {m n : ℕ} {r x : A} (y : A) → m < n → r ≡ x → r ≡ cond (ltb m n) x y
+if-less y h e = cond-yes y (lt-ltb _ _ h) e
+
+pub if-not-less : {A : Type 0} {m n : ℕ} {r : A} (x : A) {y : A} → n ≤ m → r ≡ y → r ≡ cond (ltb m n) x y
+if-not-less x h e = cond-rest x (le-ltb _ _ h) e
 
 -- `r` is what a call answered, and the code tests its negation
 pub fails : {b r : Bool} → r ≡ b → not r ≡ true → b ≡ false

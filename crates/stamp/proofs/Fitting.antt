@@ -7,7 +7,7 @@ use lib.IntN.{ℤ, pos, negsuc, natAbs, _+ℤ_, _-ℤ_, _*ℤ_}
 use lib.Signed.{nonNeg, _≤ℤ_}
 use mir.Syntax.{w32, w64}
 use mir.Val.{SFits, Fits}
-use Rattle.laws.proofs.Difference.{up, down, sum-is, diff-is, integers}
+use Rattle.laws.proofs.Difference.{sum-is, diff-is, integers}
 use Rattle.laws.proofs.Machine.{Within, one-side, fits-to, fits-from, casts-from, times-is}
 use Rattle.stamp.specs.declared.Scale.{Scale}
 use Rattle.stamp.specs.declared.Scale.the-variants.{Utc, Tai, Tdt, Gps}

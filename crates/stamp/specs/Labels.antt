@@ -52,8 +52,12 @@ realYear l = leb 1972 (l .year) && leb (l .year) 9999
 unfoldable pub realMonth : Label → Bool
 realMonth l = leb 1 (l .month) && leb (l .month) 12
 
+-- a month of so many days has the label's day
+abbrev pub dayIn : ℕ → Label → Bool
+dayIn days l = leb 1 (l .day) && leb (l .day) days
+
 unfoldable pub realDay : Label → Bool
-realDay l = leb 1 (l .day) && leb (l .day) (monthLength (monthOf l))
+realDay l = dayIn (monthLength (monthOf l)) l
 
 unfoldable pub realClock : ℕ → Reading → Bool
 realClock most r = leb (r .label .hour) 23 && (leb (r .label .minute) 59 && (leb (r .label .second) most && leb (r .micro) 999999))

@@ -7,7 +7,7 @@ ghost use lib.IntN.{ℤ, pos, negsuc};
 ghost use lib.Signed.{leZ, _≤ℤ_, _<ℤ_};
 ghost use Rattle.leap.specs.Leap.{tabled, accepted};
 ghost use Rattle.calendar.specs.Calendar.{daysBefore, monthLength};
-ghost use Rattle.stamp.specs.Labels.{lastMinute, monthOf, minuteIn, realYear, realMonth, realDay, realClock, secondOf};
+ghost use Rattle.stamp.specs.Labels.{lastMinute, monthOf, minuteIn, realYear, realMonth, dayIn, realClock, secondOf};
 ghost use Rattle.stamp.specs.Instants.{scaleOf, fixed, offsetsOf, mostSecond, instantAt, countOf, fieldsAnswer, instantAnswer};
 ghost use Rattle.stamp.specs.Stamps.{dayBegins, begins, minuteOf, inDay, inMonth, since, labelAt, inRange, timeAnswer, stampAnswer};
 use answer::Refusal;
@@ -138,7 +138,7 @@ impl Scale {
 
 // ---- which labels exist
 
-pub(crate) fn real_year(l: Label) -> bool
+pub fn real_year(l: Label) -> bool
     ensures { λ r. ⌜ r ≡ realYear l ⌝ }
 {
     if l.year < 1972 {
@@ -147,7 +147,7 @@ pub(crate) fn real_year(l: Label) -> bool
     l.year <= 9999
 }
 
-fn real_month(l: Label) -> bool
+pub fn real_month(l: Label) -> bool
     ensures { λ r. ⌜ r ≡ realMonth l ⌝ }
 {
     if l.month < 1 {
@@ -156,17 +156,17 @@ fn real_month(l: Label) -> bool
     l.month <= 12
 }
 
-fn real_day(l: Label, length: u32) -> bool
-    requires { ⌜ length ≡ monthLength (monthOf l) ⌝ }
-    ensures { λ r. ⌜ r ≡ realDay l ⌝ }
+// A month of so many days has the label's day.
+pub fn day_in(days: u32, l: Label) -> bool
+    ensures { λ r. ⌜ r ≡ dayIn days l ⌝ }
 {
     if l.day < 1 {
         return false;
     }
-    l.day <= length
+    l.day <= days
 }
 
-fn real_clock(most: u32, r: Reading) -> bool
+pub fn real_clock(most: u32, r: Reading) -> bool
     ensures { λ b. ⌜ b ≡ realClock most r ⌝ }
 {
     let l = r.label;
@@ -182,7 +182,7 @@ fn real_clock(most: u32, r: Reading) -> bool
     r.micro <= 999999
 }
 
-fn last_minute(here: i32, next: i32) -> u32
+pub fn last_minute(here: i32, next: i32) -> u32
     ensures { λ r. ⌜ r ≡ lastMinute here next ⌝ }
 {
     if here < next {
@@ -246,7 +246,7 @@ pub fn instant_in<'a>(
     let month = l.month;
     let m = 12 * year + (month - 1);
     let span = calendar::month(m);
-    if !real_day(l, span.length) {
+    if !day_in(span.length, l) {
         return InstantAnswer::Refused(Refusal::Date);
     }
     if !real_clock(scale.most_second(), r) {

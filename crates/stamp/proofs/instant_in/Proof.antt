@@ -16,7 +16,7 @@ use Rattle.calendar.specs.Calendar.{monthLength}
 use Rattle.calendar.proofs.Laws.{days-most, length-most}
 use Rattle.leap.specs.Leap.{tabled}
 use Rattle.stamp.specs.declared.InstantAnswer.the-variants.{At}
-use Rattle.stamp.specs.Labels.{minuteIn, minuteLength, monthOf, realYear, realMonth, realDay, realClock, secondOf}
+use Rattle.stamp.specs.Labels.{minuteIn, minuteLength, monthOf, realYear, realMonth, dayIn, realDay, realClock, secondOf}
 use Rattle.stamp.specs.Instants.{offsetsOf, mostSecond, fixed, instantAt}
 use Rattle.stamp.proofs.Facts.{year-to, month-to, day-to, clock-to, most-sixty, second-no, second-yes}
 use Rattle.stamp.proofs.instant_in.Statement.{statement}
@@ -32,8 +32,12 @@ month-ok c = holds (c .before .real-month .ensures) (c .if2 .left)
 length-is : (c : tie.After-month) → c .month .result .length ≡ monthLength (monthOf (c .before .before .before .before .before .before .args .r .label))
 length-is c = ap (λ (s : Span). s .length) (c .month .ensures)
 
+day-told : (c : tie.After-day-in) → c .day-in .result ≡ realDay (c .before .before .before .before .before .before .before .args .r .label)
+unfolding realDay
+day-told c = c .day-in .ensures ∙ ap (λ (n : ℕ). dayIn n (c .before .before .before .before .before .before .before .args .r .label)) (length-is (c .before))
+
 day-ok : (c : tie.Else3) → realDay (c .before .before .before .before .before .before .before .before .args .r .label) ≡ true
-day-ok c = holds (c .before .real-day .ensures) (c .if3 .left)
+day-ok c = holds (day-told (c .before)) (c .if3 .left)
 
 clock-told : (c : tie.After-real-clock) → c .real-clock .result ≡ realClock (mostSecond (c .before .before .before .before .before .before .before .before .before .before .args .scale)) (c .before .before .before .before .before .before .before .before .before .before .args .r)
 clock-told c = c .real-clock .ensures ∙ ap (λ (k : ℕ). realClock k (c .before .before .before .before .before .before .before .before .before .before .args .r)) (c .before .most-second .ensures)
@@ -77,11 +81,11 @@ add-m c =
 month-requires : tie.Need-month-requires
 month-requires c κs = search needs
 
-real-day-requires : tie.Need-real-day-requires
-real-day-requires c κs = length-is c
+day-in-requires : tie.Need-day-in-requires
+day-in-requires c κs = search needs
 
 returns-3 : tie.Need-returns-3
-returns-3 c = passed _ (year-ok (c .before .before .before .before .before)) (passed _ (month-ok (c .before .before .before)) (refused _ _ (fails (c .before .real-day .ensures) (c .if3 .taken))))
+returns-3 c = passed _ (year-ok (c .before .before .before .before .before)) (passed _ (month-ok (c .before .before .before)) (refused _ _ (fails (day-told (c .before)) (c .if3 .taken))))
 
 most-second-requires : tie.Need-most-second-requires
 most-second-requires c κs = search needs
@@ -159,7 +163,7 @@ instant-in-spec =
     sub-m
     add-m
     month-requires
-    real-day-requires
+    day-in-requires
     returns-3
     most-second-requires
     real-clock-requires

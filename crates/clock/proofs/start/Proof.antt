@@ -1,0 +1,18 @@
+-- `clock::start` meets its contract.
+-- Assumes nothing.
+use borrow.Author.Needs.{needs}
+use Rattle.laws.proofs.Branches.{fails, holds}
+use Rattle.answer.proofs.Orders.{refused, passed}
+use Rattle.clock.specs.Clock.{startAnswer}
+use Rattle.clock.proofs.start.Statement.{statement}
+use Rattle.clock.proofs.start.Tie as tie
+
+pub start-spec : {M : Type 1} → statement M
+unfolding startAnswer
+start-spec =
+    tie.close
+    (tie.spec
+    (λ c κs. search needs)
+    (λ c. refused _ _ (fails (c .before .is-accepted .ensures) (c .if1 .taken)))
+    (λ c κs. search needs)
+    (λ c. passed _ (holds (c .before .before .is-accepted .ensures) (c .before .if1 .left)) (c .shown .ensures)))

@@ -1,0 +1,19 @@
+-- `clock::tick` meets its contract: the table is judged first, and then the label.
+-- Assumes nothing.
+use borrow.Author.Needs.{needs}
+use Rattle.laws.proofs.Branches.{fails, holds}
+use Rattle.answer.proofs.Orders.{refused, passed}
+use Rattle.clock.specs.Clock.{tickAnswer}
+use Rattle.clock.proofs.tick.Statement.{statement}
+use Rattle.clock.proofs.tick.Tie as tie
+
+pub tick-spec : {M : Type 1} → statement M
+unfolding tickAnswer
+tick-spec =
+    tie.close
+    (tie.spec
+    (λ c κs. search needs)
+    (λ c. refused _ _ (fails (c .before .is-accepted .ensures) (c .if1 .taken)))
+    (λ c κs. search needs)
+    (λ c. let e = c .before .before .before .before in
+    passed _ (holds (e .before .is-accepted .ensures) (e .if1 .left)) (c .tick-in .ensures)))

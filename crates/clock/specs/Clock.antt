@@ -1,0 +1,63 @@
+-- The plain clock: its start, its tick by the rule, and what it shows after n ticks.
+-- Assumes nothing.
+use mathlib.Core.Bool.{cond}
+use mathlib.Core.List.{[], _∷_}
+use Prim.Native.Nat.{ℕ, zero, suc, _+_}
+use lib.Dec.{ltb}
+use Rattle.answer.specs.declared.Refusal.the-variants.{Range as RANGE, Table as TABLE}
+use Rattle.answer.specs.Refusals.{refusing}
+use Rattle.calendar.specs.Calendar.{monthLength}
+use Rattle.leap.specs.declared.Table.{Table}
+use Rattle.leap.specs.Leap.{accepted, offsetAt}
+use Rattle.stamp.specs.declared.Label.{Label}
+use Rattle.stamp.specs.declared.Reading.{Reading}
+use Rattle.stamp.specs.Labels.{label, monthOf, minuteLength, asked}
+use Rattle.clock.specs.declared.TickAnswer.{TickAnswer}
+use Rattle.clock.specs.declared.TickAnswer.the-variants.{Next, Refused}
+
+-- ---- the rule
+
+abbrev pub shown : ℕ → ℕ → ℕ → ℕ → ℕ → ℕ → TickAnswer
+shown y mo d h mi s = Next (label y mo d h mi s)
+
+-- `days` is the length of the label's month, `seconds` that of its minute: 61 where a second is added, 59 where one is taken out.
+-- The first of second, minute, hour, day, month and year that can go up does, and those before it begin again; at the end of 9999 none can.
+unfoldable pub next : ℕ → ℕ → Label → TickAnswer
+next days seconds l =
+    cond (ltb (l .second + 1) seconds) (shown (l .year) (l .month) (l .day) (l .hour) (l .minute) (l .second + 1))
+    (cond (ltb (l .minute) 59) (shown (l .year) (l .month) (l .day) (l .hour) (l .minute + 1) 0)
+    (cond (ltb (l .hour) 23) (shown (l .year) (l .month) (l .day) (l .hour + 1) 0 0)
+    (cond (ltb (l .day) days) (shown (l .year) (l .month) (l .day + 1) 0 0 0)
+    (cond (ltb (l .month) 12) (shown (l .year) (l .month + 1) 1 0 0 0)
+    (cond (ltb (l .year) 9999) (shown (l .year + 1) 1 1 0 0 0)
+    (Refused RANGE))))))
+
+-- ---- the calls
+
+-- a label is judged as the UTC reading of its whole second
+abbrev pub whole : Label → Reading
+whole l = record { label = l; micro = 0 }
+
+-- the tests of a UTC reading, 3, 4, 5 and 6 in this order, and past them the rule
+abbrev pub labelAnswer : Table → Label → TickAnswer
+labelAnswer t l = refusing Refused (asked (offsetAt t) 60 (whole l)) (next (monthLength (monthOf l)) (minuteLength (offsetAt t) l) l)
+
+-- `tick`
+unfoldable pub tickAnswer : Table → Label → TickAnswer
+tickAnswer t l = refusing Refused ((accepted t, TABLE) ∷ []) (labelAnswer t l)
+
+-- `start`
+unfoldable pub startAnswer : Table → TickAnswer
+startAnswer t = refusing Refused ((accepted t, TABLE) ∷ []) (shown 1972 1 1 0 0 0)
+
+-- ---- the clock
+
+-- a tick of what is shown; a refusal stays
+abbrev pub onward : Table → TickAnswer → TickAnswer
+onward t (Next l) = tickAnswer t l
+onward t (Refused why) = Refused why
+
+-- what the clock shows after n ticks
+unfoldable pub after : Table → ℕ → TickAnswer
+after t zero = startAnswer t
+after t (suc n) = onward t (after t n)
