@@ -7,7 +7,7 @@ use native.Mathlib.Nat.{le-of-suc-le-suc, not-suc-le-zero, add-zero, zero-add, a
 use native.Mathlib.Omega.{arith}
 use lib.Dec.{T, leb, leb→le}
 use Rattle.laws.proofs.Tables.{each, each-left, each-right, sum-at}
-use Rattle.calendar.specs.Calendar.{leapYear, monthLength, daysBefore, monthOf}
+use Rattle.calendar.specs.Calendar.{leapYear, monthLength, daysBefore, monthOfDay}
 use Rattle.calendar.proofs.Laws.{days-split, days-most, days-next, month-is}
 
 -- a month begins within three days of where months of mean length would have it
@@ -40,10 +40,10 @@ guess-low d = omega (arith, near-mean (guess d + 1))
 pub guess-high : (d : ℕ) → d < daysBefore (guess d) → (1 ≤ guess d) × (daysBefore (guess d - 1) ≤ d)
 guess-high d h = omega (arith, days-most (guess d), near-mean (guess d - 1))
 
-pub guessed : (d : ℕ) → daysBefore (guess d) ≤ d → guess d ≡ monthOf d
+pub guessed : (d : ℕ) → daysBefore (guess d) ≤ d → guess d ≡ monthOfDay d
 guessed d h = month-is d (guess d) (h, guess-low d)
 
-pub guessed-next : (d : ℕ) → d < daysBefore (guess d) → guess d - 1 ≡ monthOf d
+pub guessed-next : (d : ℕ) → d < daysBefore (guess d) → guess d - 1 ≡ monthOfDay d
 guessed-next d h =
     let back : guess d ≡ guess d - 1 + 1 = omega (arith, guess-high d h) in
     month-is d (guess d - 1) (guess-high d h .1, omega (arith, ap daysBefore back))

@@ -9,7 +9,7 @@ use native.Mathlib.Numerals.{add-one}
 use native.Mathlib.Omega.{arith}
 use lib.Dec.{T, leb, ltb, leb→le}
 use lib.ListN.{length, getD}
-use Rattle.calendar.specs.Calendar.{leapYear, lengths, monthLength, daysBefore, monthOf}
+use Rattle.calendar.specs.Calendar.{leapYear, lengths, monthLength, daysBefore, monthOfDay}
 use borrow.Author.Tests.{ltb-true, ltb-false}
 use Rattle.laws.proofs.Tables.{each, each-left, each-right, at, runs, run-at}
 
@@ -122,13 +122,13 @@ next-month : (d m : ℕ) (b : Bool) → ltb (suc d) (daysBefore (m + 1)) ≡ b �
 next-month d m true e f = omega (arith, ltb-true)
 next-month d m false e f = omega (arith, ltb-false, rise 1 (m + 1))
 
-pub in-month : (d : ℕ) → Falls d (monthOf d)
-unfolding monthOf daysBefore
+pub in-month : (d : ℕ) → Falls d (monthOfDay d)
+unfolding monthOfDay daysBefore
 in-month zero = omega (arith, length-least 0)
-in-month (suc d) = next-month d (monthOf d) (ltb (suc d) (daysBefore (monthOf d + 1))) refl (in-month d)
+in-month (suc d) = next-month d (monthOfDay d) (ltb (suc d) (daysBefore (monthOfDay d + 1))) refl (in-month d)
 
-pub month-is : (d m : ℕ) → Falls d m → m ≡ monthOf d
-month-is d m f = one-month d m (monthOf d) f (in-month d)
+pub month-is : (d m : ℕ) → Falls d m → m ≡ monthOfDay d
+month-is d m f = one-month d m (monthOfDay d) f (in-month d)
 
 -- ---- three days that everything above counts from
 

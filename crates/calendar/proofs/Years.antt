@@ -11,7 +11,7 @@ use Rattle.laws.proofs.Branches.{cond-yes}
 use Rattle.laws.proofs.Cases.{by-order, both, join}
 use Rattle.calendar.specs.declared.MonthDay.{MonthDay}
 use Rattle.calendar.specs.declared.YearDate.the-variants.{On, Nothing}
-use Rattle.calendar.specs.Calendar.{leapYear, monthLength, daysBefore, monthOf, dayOfYear, yearLength}
+use Rattle.calendar.specs.Calendar.{leapYear, monthLength, daysBefore, monthOfDay, dayOfYear, yearLength}
 use Rattle.calendar.specs.Dates.{monthDay, likeYear, inYear, dateInYear}
 use Rattle.calendar.proofs.Laws.{days-next, days-mono, days-most, in-month, month-is}
 
@@ -84,26 +84,26 @@ year-days y = omega (arith, days-like y 12 (omega arith), like-end y)
 -- ---- the date of a day of a year
 
 abbrev onDate : ℕ → MonthDay
-onDate d = record { month = monthOf d % 12 + 1; day = monthDay d .day }
+onDate d = record { month = monthOfDay d % 12 + 1; day = monthDay d .day }
 
 -- the month of the day n days after the first of the year, and that of the same day in the year that it is like
 module _ (y n : ℕ) (h : n < yearLength y) where
-  month-within : (start : ℕ) → daysBefore (12 * start + 12) ≡ daysBefore (12 * start) + yearLength y → (12 * start ≤ monthOf (daysBefore (12 * start) + n)) × (monthOf (daysBefore (12 * start) + n) < 12 * start + 12)
+  month-within : (start : ℕ) → daysBefore (12 * start + 12) ≡ daysBefore (12 * start) + yearLength y → (12 * start ≤ monthOfDay (daysBefore (12 * start) + n)) × (monthOfDay (daysBefore (12 * start) + n) < 12 * start + 12)
   month-within start e =
       let day = daysBefore (12 * start) + n in
-      let m = monthOf day in
+      let m = monthOfDay day in
       let f = in-month day in (
         by-order m (12 * start) (λ p. absurd (omega (arith, days-mono (m + 1) (12 * start) (omega arith)))) (λ p. p),
         by-order m (12 * start + 12) (λ p. p) (λ p. absurd (omega (arith, days-mono (12 * start + 12) m p))),
       )
 
-  pub month-in-year : (12 * y ≤ monthOf (daysBefore (12 * y) + n)) × (monthOf (daysBefore (12 * y) + n) < 12 * y + 12)
+  pub month-in-year : (12 * y ≤ monthOfDay (daysBefore (12 * y) + n)) × (monthOfDay (daysBefore (12 * y) + n) < 12 * y + 12)
   month-in-year = month-within y (year-days y)
 
   same-date : inYear (likeYear y) n ≡ inYear y n
   same-date =
       let l = likeYear y in
-      let q = monthOf (daysBefore (12 * l) + n) in
+      let q = monthOfDay (daysBefore (12 * l) + n) in
       let k = q - 12 * l in
       let f = in-month (daysBefore (12 * l) + n) in
       let w = month-within l (omega (arith, like-end y, like-start y)) in
@@ -113,10 +113,10 @@ module _ (y n : ℕ) (h : n < yearLength y) where
       let a = days-like y k (omega arith) in
       let b = days-like y (k + 1) (omega arith) in
       let s = like-start y in
-      let m : 12 * y + k ≡ monthOf (daysBefore (12 * y) + n) =
+      let m : 12 * y + k ≡ monthOfDay (daysBefore (12 * y) + n) =
       month-is (daysBefore (12 * y) + n) (12 * y + k) (omega (arith, ap daysBefore here), omega (arith, ap daysBefore next, ap daysBefore up)) in
-      let month : q % 12 + 1 ≡ monthOf (daysBefore (12 * y) + n) % 12 + 1 = omega arith in
-      let day : daysBefore (12 * l) + n - daysBefore q + 1 ≡ daysBefore (12 * y) + n - daysBefore (monthOf (daysBefore (12 * y) + n)) + 1 =
+      let month : q % 12 + 1 ≡ monthOfDay (daysBefore (12 * y) + n) % 12 + 1 = omega arith in
+      let day : daysBefore (12 * l) + n - daysBefore q + 1 ≡ daysBefore (12 * y) + n - daysBefore (monthOfDay (daysBefore (12 * y) + n)) + 1 =
       omega (arith, ap daysBefore here, ap daysBefore m) in
       cc
 
@@ -144,9 +144,9 @@ date-back y a i =
     let begun = days-mono (12 * y) m (omega arith) in
     let ends = days-mono (m + 1) (12 * y + 12) (omega (arith, i)) in
     let is : day ≡ daysBefore m + (a .day - 1) = omega (arith, i, ap daysBefore year) in
-    let at : m ≡ monthOf day = month-is day m (omega arith, omega (arith, i, days-next m)) in
-    let month : a .month ≡ monthOf day % 12 + 1 = omega (arith, i) in
-    let date : a .day ≡ day - daysBefore (monthOf day) + 1 = omega (arith, i, ap daysBefore at) in
+    let at : m ≡ monthOfDay day = month-is day m (omega arith, omega (arith, i, days-next m)) in
+    let month : a .month ≡ monthOfDay day % 12 + 1 = omega (arith, i) in
+    let date : a .day ≡ day - daysBefore (monthOfDay day) + 1 = omega (arith, i, ap daysBefore at) in
     sym (cond-yes Nothing (join (le-leb 1 (yearDay y a) (omega (arith, i))) (le-leb (yearDay y a) (yearLength y) (omega (arith, i, year-days y, days-next m, ap daysBefore year)))) (ap₂ (λ (x z : ℕ). On (record { month = x; day = z })) month date))
 
 -- a day of the year is that of the date it has
@@ -160,7 +160,7 @@ day-back y n a e = go (leb 1 n && leb n (yearLength y)) refl e
         let low = leb-true 1 n (r .0) in
         let high = leb-true n (yearLength y) (r .1) in
         let day = daysBefore (12 * y) + (n - 1) in
-        let k = monthOf day in
+        let k = monthOfDay day in
         let f = in-month day in
         let w = month-in-year y (n - 1) (omega arith) in
         let same : inYear y (n - 1) ≡ a = cc in

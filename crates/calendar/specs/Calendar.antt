@@ -27,9 +27,9 @@ daysBefore zero = 0
 daysBefore (suc m) = daysBefore m + monthLength m
 
 -- the month of day d, counted from 1 January of year 0: that of the day before, or the next one where that is over
-unfoldable pub monthOf : ℕ → ℕ
-monthOf zero = 0
-monthOf (suc d) = cond (ltb (suc d) (daysBefore (monthOf d + 1))) (monthOf d) (monthOf d + 1)
+unfoldable pub monthOfDay : ℕ → ℕ
+monthOfDay zero = 0
+monthOfDay (suc d) = cond (ltb (suc d) (daysBefore (monthOfDay d + 1))) (monthOfDay d) (monthOfDay d + 1)
 
 -- which day of its year day d of month m is; both days are counted from 1
 abbrev pub dayOfYear : ℕ → ℕ → ℕ

@@ -11,7 +11,7 @@ use lib.Signed.{leZ, _≤ℤ_}
 use Rattle.laws.proofs.Cases.{by-order}
 use Rattle.laws.proofs.Difference.{up, down, sum-is, diff-is, leZ-true, leZ-false, le-from}
 use Rattle.laws.proofs.Machine.{one-side, natAbs-is}
-use Rattle.calendar.specs.Calendar.{daysBefore, monthOf}
+use Rattle.calendar.specs.Calendar.{daysBefore, monthOfDay}
 use Rattle.calendar.proofs.Laws.{days-next, length-least, in-month}
 use Rattle.stamp.specs.Labels.{Offsets}
 use Rattle.stamp.specs.Stamps.{begins, monthAt, since}
@@ -31,7 +31,7 @@ pub record In (o : Offsets) (m s : ℕ) : Type 0 where
 
 -- the code's guess: the month of the day 128 seconds before
 abbrev pub guess : ℕ → ℕ
-guess s = monthOf ((s - 128) / 86400)
+guess s = monthOfDay ((s - 128) / 86400)
 
 module _ (o : Offsets) (m s : ℕ) where
   pub begun-to : leZ (begins o m) (pos s) ≡ true → Begun o m s

@@ -2,7 +2,7 @@ use mathlib.Core.Path.{refl, ap}
 use native.Mathlib.Omega.{arith}
 use borrow.Author.Needs.{needs}
 use Rattle.calendar.specs.declared.Span.{Span}
-use Rattle.calendar.specs.Calendar.{monthOf}
+use Rattle.calendar.specs.Calendar.{monthOfDay}
 use Rattle.calendar.proofs.Laws.{in-month, days-next, length-most}
 use Rattle.calendar.proofs.month_day.Statement.{statement}
 use Rattle.calendar.proofs.month_day.Tie as tie
@@ -19,7 +19,7 @@ cast-t5 c = search needs
 add-t6 : tie.Need-add-t6
 add-t6 c =
     let d = c .before .before .args .day in
-    omega (arith, ap (λ (s : Span). s .start) (c .before .month-of-day .ensures), in-month d, days-next (monthOf d), length-most (monthOf d))
+    omega (arith, ap (λ (s : Span). s .start) (c .before .month-of-day .ensures), in-month d, days-next (monthOfDay d), length-most (monthOfDay d))
 
 returns : tie.Need-returns
 returns c = rw (c .before .month-of-day .ensures) refl
