@@ -2,11 +2,13 @@
 -- Assumes nothing.
 use mathlib.Core.Path.{_≡_, refl, sym}
 use mathlib.Core.Bool.{Bool, true, false, cond, _&&_}
+use native.Mathlib.Omega.{arith}
 use mathlib.Core.List.{List, [], _∷_}
 use Rattle.laws.proofs.Branches.{cond-yes, cond-rest}
 use Rattle.laws.proofs.Cases.{both, join}
 use Rattle.answer.specs.declared.Refusal.{Refusal}
-use Rattle.answer.specs.Refusals.{refusing, allPass}
+use Rattle.answer.specs.declared.Refusal.the-variants.{Room, Shape, Year, Date, Clock, NoSecond, Range, Ask, Cut, Groups, Table, Tail, Number}
+use Rattle.answer.specs.Refusals.{number, refusing, allPass}
 
 pub refused : {A : Type 0} {b : Bool} (why y : A) → b ≡ false → why ≡ cond b y why
 refused why y p = cond-rest y p refl
@@ -30,3 +32,19 @@ was-passed refuse (test ∷ tests) a v n e = go (test .0) refl e (λ q. was-pass
     go : (b : Bool) → test .0 ≡ b → cond b (refusing refuse tests a) (refuse (test .1)) ≡ v → (refusing refuse tests a ≡ v → (allPass tests ≡ true) × (a ≡ v)) → ((test .0 && allPass tests) ≡ true) × (a ≡ v)
     go true p q ih = let w = ih q in (join p (w .0), w .1)
     go false p q ih = absurd (n (test .1) q)
+
+-- no refusal has the number of success
+pub number-some : (why : Refusal) → number why ≡ 0 → ⊥
+number-some Room e = omega arith
+number-some Shape e = omega arith
+number-some Year e = omega arith
+number-some Date e = omega arith
+number-some Clock e = omega arith
+number-some NoSecond e = omega arith
+number-some Range e = omega arith
+number-some Ask e = omega arith
+number-some Cut e = omega arith
+number-some Groups e = omega arith
+number-some Table e = omega arith
+number-some Tail e = omega arith
+number-some Number e = omega arith

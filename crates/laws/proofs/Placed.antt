@@ -7,9 +7,10 @@ use Prim.Native.Nat.{ℕ, suc, _+_, _-_, _≤_, _<_}
 use native.Mathlib.Nat.{zero-add, add-zero}
 use native.Mathlib.Numerals.{add-one}
 use native.Mathlib.Omega.{arith}
-use lib.ListN.{length, take, drop, getD, set, length-append, length-take, length-drop, take-append-drop, drop-of-length-le, List·getD-append}
-use lib.Seq.{take-at, drop-at, take-all, take-length, length-take-le, set-split, drop-drop, drop-append-add, getD-append-add, getD-take, getD-drop}
+use lib.ListN.{length, take, drop, getD, set, length-append, length-take, length-drop, take-append-drop, drop-of-length-le, replicate, length-replicate, getD-replicate, List·getD-append, List·getD-eq-default}
+use lib.Seq.{sets, sets-eq, take-at, drop-at, take-all, take-length, length-take-le, set-split, drop-drop, drop-append-add, getD-append-add, getD-take, getD-drop}
 use Rattle.laws.specs.Placed.{over, place}
+use Rattle.laws.proofs.Cases.{by-order}
 
 module _ {A : Type 0} where
   -- ---- in front
@@ -86,3 +87,15 @@ module _ {A : Type 0} where
   place-part old new i h =
       let e : length (drop i old) ≤ length old - i = simp length-drop (omega arith) in
       rw (take-length, take-all _ (drop i old) e, drop-of-length-le (drop i old) e, append-nil, drop-drop)
+
+  -- ---- a run of stores, and a list of one value
+
+  pub take-sets : (old : List A) (i : ℕ) (new : List A) → i + length new ≤ length old → take (i + length new) (sets old i new) ≡ take i old ++ new
+  take-sets old i new h =
+      ap (take (i + length new)) (sets-eq new old i h)
+      ∙ take-at (take i old ++ new) (drop (i + length new) old) (i + length new) (omega (arith, length-append (take i old) new, length-take i old))
+
+  -- it has that value everywhere, past its end too
+  pub replicate-same : (v : A) (n k : ℕ) → getD (replicate n v) k v ≡ v
+  replicate-same v n k =
+      by-order k n (λ l. getD-replicate n k v v l) (λ l. List·getD-eq-default (replicate n v) v (omega (arith, length-replicate n v)))

@@ -6,19 +6,13 @@ use Prim.Native.Nat.{ℕ}
 use lib.IntN.{pos, negℤ}
 use Rattle.answer.specs.declared.Refusal.the-variants.{Clock as CLOCK, NoSecond as NOSECOND}
 use Rattle.leap.specs.declared.Table.{Table}
-use Rattle.leap.specs.Leap.{rising, filled, bulletinC}
+use Rattle.leap.specs.Desk.{T, N}
+use Rattle.leap.specs.Leap.{bulletinC}
 use Rattle.stamp.specs.declared.Reading.{Reading}
 use Rattle.stamp.specs.declared.InstantAnswer.{InstantAnswer}
 use Rattle.stamp.specs.declared.InstantAnswer.the-variants.{At, Refused}
 use Rattle.stamp.specs.Labels.{label}
 use Rattle.stamp.specs.Instants.{instantAnswer}
-
--- the blocks 03 0C 0C and 02 0D
-abbrev pub T : Table
-T = filled (0 ∷ 6 ∷ 12 ∷ []) (rising 3 10)
-
-abbrev pub N : Table
-N = filled (0 ∷ 6 ∷ []) (pos 10 ∷ pos 9 ∷ [])
 
 abbrev pub at : ℕ → ℕ → ℕ → ℕ → ℕ → ℕ → ℕ → Reading
 at y mo d h mi s u = record { label = label y mo d h mi s; micro = u }

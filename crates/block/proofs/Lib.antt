@@ -1,0 +1,8 @@
+pub mod Masks
+pub mod Numbers
+pub mod Steps
+pub mod Writing
+pub mod Reading
+pub mod Entries
+pub mod OneToOne
+pub mod Worked

@@ -1,0 +1,64 @@
+-- The night desk's rows on blocks, as one table, and the edges of the paragraph as another.
+-- Assumes nothing.
+use mathlib.Core.Path.{_≡_}
+use mathlib.Core.List.{List, [], _∷_}
+use Prim.Native.Nat.{ℕ}
+use lib.IntN.{pos}
+use lib.ListN.{length}
+use Rattle.leap.specs.declared.Table.{Table}
+use Rattle.leap.specs.Desk.{T, N}
+use Rattle.leap.specs.Leap.{rising, filled, bulletinC}
+use Rattle.block.specs.Blocks.{blockOf}
+use Rattle.block.specs.Reading.{zeroTable, answered, readBlock}
+
+abbrev pub B : List ℕ
+B =
+    0x1C ∷ 0x0C ∷ 0x0C ∷ 0x18 ∷ 0x18 ∷ 0x18 ∷ 0x18 ∷ 0x18 ∷ 0x18 ∷ 0x18 ∷ 0x24 ∷ 0x18 ∷ 0x18 ∷ 0x30 ∷ 0x3C ∷ 0x30 ∷ 0x18
+    ∷ 0x24 ∷ 0x18 ∷ 0x18 ∷ 0x24 ∷ 0x24 ∷ 0x24 ∷ 0xA8 ∷ 0x01 ∷ 0x48 ∷ 0x54 ∷ 0x48 ∷ 0x24 ∷ []
+
+pub data Row : Type 0 where
+  -- a table takes so many bytes
+  takes : Table → ℕ → Row
+  -- a block is that of a table, and gives it
+  gives : List ℕ → Table → Row
+  -- a block is refused with this number at this place, and gives the all-zero table
+  refuses : List ℕ → ℕ → ℕ → Row
+
+abbrev pub rows : List Row
+rows =
+    takes bulletinC 29
+    ∷ gives B bulletinC
+    ∷ gives (0x03 ∷ 0x0C ∷ 0x0C ∷ []) T
+    ∷ gives (0x02 ∷ 0x0D ∷ []) N
+    ∷ refuses (0x81 ∷ 0x00 ∷ []) 10 0
+    ∷ refuses (0x01 ∷ 0x00 ∷ []) 12 1
+    ∷ refuses (0x02 ∷ 0x01 ∷ []) 11 1
+    ∷ refuses [] 9 0
+    ∷ refuses (0x41 ∷ []) 11 0
+    ∷ []
+
+-- the same for what the desk's rows do not show
+abbrev pub edges : List Row
+edges =
+    -- one entry; the last month, and the one past it; a number of 0
+    gives (0x01 ∷ []) (filled (0 ∷ []) (pos 10 ∷ []))
+    ∷ gives (0x02 ∷ 0x9E ∷ 0xE1 ∷ 0x0B ∷ []) (filled (0 ∷ 96335 ∷ []) (rising 2 10))
+    ∷ refuses (0x02 ∷ 0xA0 ∷ 0xE1 ∷ 0x0B ∷ []) 11 1
+    ∷ refuses (0x02 ∷ 0x00 ∷ []) 11 1
+    -- a missing number's place is the block's length; three marked bytes are GROUPS, two and the end CUT
+    ∷ refuses (0x02 ∷ []) 9 1
+    ∷ refuses (0x02 ∷ 0x80 ∷ 0x80 ∷ 0x80 ∷ []) 10 1
+    ∷ refuses (0x02 ∷ 0x80 ∷ 0x80 ∷ []) 9 1
+    -- the shortest form goes before the number's own test; a tail is not read
+    ∷ refuses (0xC1 ∷ 0x00 ∷ []) 10 0
+    ∷ refuses (0x01 ∷ 0x80 ∷ 0x80 ∷ 0x80 ∷ []) 12 1
+    ∷ []
+
+abbrev pub Right : Row → Type 0
+Right (takes t n) = length (blockOf t) ≡ n
+Right (gives s t) = (blockOf t ≡ s) × (answered (readBlock s) ≡ (0, 0, t))
+Right (refuses s number place) = answered (readBlock s) ≡ (number, place, zeroTable)
+
+abbrev pub AllRight : List Row → Type 0
+AllRight [] = Unit {0}
+AllRight (r ∷ rs) = Right r × AllRight rs

@@ -1,0 +1,5 @@
+pub mod Numbers
+pub mod Blocks
+pub mod Reading
+pub mod Promise
+pub mod Desk
