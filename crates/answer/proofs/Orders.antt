@@ -33,6 +33,15 @@ was-passed refuse (test ∷ tests) a v n e = go (test .0) refl e (λ q. was-pass
     go true p q ih = let w = ih q in (join p (w .0), w .1)
     go false p q ih = absurd (n (test .1) q)
 
+-- an order answered in one type is answered in another
+pub refusing-map : {A B : Type 0} (f : A → B) (refuse : Refusal → A) (tests : List (Bool × Refusal)) (a : A) → f (refusing refuse tests a) ≡ refusing (λ why. f (refuse why)) tests (f a)
+refusing-map f refuse [] a = refl
+refusing-map f refuse (test ∷ tests) a = go (test .0) (refusing-map f refuse tests a)
+  where
+    go : (b : Bool) → f (refusing refuse tests a) ≡ refusing (λ why. f (refuse why)) tests (f a) → f (cond b (refusing refuse tests a) (refuse (test .1))) ≡ cond b (refusing (λ why. f (refuse why)) tests (f a)) (f (refuse (test .1)))
+    go true e = e
+    go false e = refl
+
 -- no refusal has the number of success
 pub number-some : (why : Refusal) → number why ≡ 0 → ⊥
 number-some Room e = omega arith

@@ -1,0 +1,14 @@
+pub mod Rounding
+pub mod Division
+pub mod Pattern
+pub mod Reading
+pub mod Halves
+pub mod Years
+pub mod Midnights
+pub mod Uniform
+pub mod Asked
+pub mod Written
+pub mod Back
+pub mod Added
+pub mod Promised
+pub mod Worked

@@ -1,0 +1,34 @@
+-- The night desk's Julian row, document 01's midnights, and doubles that are easily read otherwise.
+-- Assumes nothing.
+use mathlib.Core.Path.{_≡_}
+use mathlib.Core.Bool.{true, false}
+use Prim.Native.Nat.{_+_}
+use lib.IntN.{pos, negsuc}
+use lib.Ieee.{fin, binary64, ofBits}
+use Rattle.leap.specs.Leap.{bulletinC}
+use Rattle.calendar.specs.Calendar.{daysBefore}
+use Rattle.julian.specs.declared.JulianAnswer.the-variants.{Dated}
+use Rattle.julian.specs.Fraction.{fractionOf, isFraction, microsOf}
+use Rattle.julian.specs.Midnight.{midnightOf, isMidnight, firstMidnight, lastMidnight}
+use Rattle.julian.specs.Dates.{julianAnswer}
+
+pub record Desk : Type 0 where
+  -- instant 0 on TAI: 2451544.5 and 0.5
+  pub julian-row : julianAnswer bulletinC (pos 0) 1 ≡ Dated (record { midnight = fin false 4903089 (negsuc 0); fraction = fin false 1 (negsuc 0) })
+  -- the fraction of midnight is +0.0
+  pub midnight-zero : fractionOf 0 ≡ fin false 0 (pos 0)
+  -- 1972-01-01 and 9999-12-31
+  pub first-midnight : midnightOf (daysBefore 23664) ≡ firstMidnight
+  pub last-midnight : midnightOf (daysBefore 119999 + 30) ≡ lastMidnight
+  -- 1 / 16384 is 5,273,437.5 microseconds: the later
+  pub tie : microsOf (fin false 1 (negsuc 13)) ≡ 5273438
+  -- 0x1.b26c2e8aee24fp-3 is 18,327,202,812.49999.. microseconds; its product in doubles would round up
+  pub no-tie : microsOf (ofBits binary64 0x3fcb_26c2_e8ae_e24f) ≡ 18327202812
+  -- minus zero is a fraction; minus the smallest double and 1 are none
+  pub minus-zero : isFraction (fin true 0 (pos 0)) ≡ true
+  pub below-zero : isFraction (fin true 1 (negsuc 1073)) ≡ false
+  pub one : isFraction (fin false 1 (pos 0)) ≡ false
+  -- -0.5 is a midnight's form, 2451545.0 and 2^52 are not
+  pub minus-half : isMidnight (fin true 1 (negsuc 0)) ≡ true
+  pub noon : isMidnight (fin false 2451545 (pos 0)) ≡ false
+  pub too-large : isMidnight (fin false 1 (pos 52)) ≡ false

@@ -1,0 +1,5 @@
+pub mod Fraction
+pub mod Midnight
+pub mod Dates
+pub mod Promise
+pub mod Desk
