@@ -6,3 +6,4 @@ pub mod Reading
 pub mod Entries
 pub mod OneToOne
 pub mod Worked
+pub mod Zeros

@@ -1,0 +1,28 @@
+-- A refusal writes nothing and gives nothing.
+-- Assumes nothing.
+use mathlib.Core.Path.{_≡_, ap, _∙_}
+use mathlib.Core.Bool.{Bool}
+use mathlib.Core.List.{List}
+use Prim.Native.Nat.{ℕ}
+use lib.ListN.{length, take, drop}
+use Rattle.laws.proofs.Placed.{length-over, over-front, over-rest}
+use Rattle.answer.specs.declared.Refusal.{Refusal}
+use Rattle.answer.specs.declared.Written.the-variants.{Wrote}
+use Rattle.answer.specs.Buffers.{written, bufferAfter}
+use Rattle.answer.proofs.Orders.{number-some}
+use Rattle.answer.proofs.Writers.{refused-keeps, wrote-over}
+use Rattle.block.proofs.Zeros.{gives-no-table}
+use Rattle.promises.specs.Refused.{Kept, Refuses}
+
+kept : (tests : List (Bool × Refusal)) (bytes buffer : List ℕ) (n : ℕ) → written tests bytes buffer ≡ Wrote n → Kept bytes buffer (bufferAfter tests bytes buffer) n
+kept tests bytes buffer n e =
+    let w = wrote-over tests bytes buffer n e in
+    let is = w .1 .1 in
+    record {
+      the-bytes = ap (take n) is ∙ over-front bytes buffer (w .0);
+      the-rest = ap (drop n) is ∙ over-rest bytes buffer (w .0);
+      the-length = ap length is ∙ length-over bytes buffer (w .1 .0);
+    }
+
+pub refuses : Refuses
+refuses = record { has-a-number = number-some; writes-nothing = refused-keeps; writes-no-more = kept; gives-no-table = gives-no-table }

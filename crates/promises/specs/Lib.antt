@@ -1,0 +1,5 @@
+pub mod Settled
+pub mod Refused
+pub mod Blocks
+pub mod Clock
+pub mod Julian

@@ -1,0 +1,28 @@
+-- A refusal writes nothing and gives nothing but its number (for a block, its place). What a success leaves alone is here too.
+-- Assumes nothing.
+use mathlib.Core.Path.{_≡_}
+use mathlib.Core.Bool.{Bool}
+use mathlib.Core.List.{List}
+use Prim.Native.Nat.{ℕ}
+use lib.ListN.{length, take, drop}
+use Rattle.answer.specs.declared.Refusal.{Refusal}
+use Rattle.answer.specs.declared.Written.the-variants.{Wrote, Refused}
+use Rattle.answer.specs.Refusals.{number}
+use Rattle.answer.specs.Buffers.{written, bufferAfter}
+use Rattle.block.specs.declared.BlockAnswer.the-variants.{Refused as BlockRefused}
+use Rattle.block.specs.Reading.{zeroTable, readBlock}
+
+-- what a success of n bytes leaves in the buffer: the bytes in front, past them its own, and its length
+pub record Kept (bytes buffer after : List ℕ) (n : ℕ) : Type 0 where
+  pub the-bytes : take n after ≡ bytes
+  pub the-rest : drop n after ≡ drop n buffer
+  pub the-length : length after ≡ length buffer
+
+pub record Refuses : Type 0 where
+  -- no refusal has the number 0 of success
+  pub has-a-number : (why : Refusal) → number why ≡ 0 → ⊥
+  -- every writer, whatever it is asked before ROOM and whatever its bytes
+  pub writes-nothing : (tests : List (Bool × Refusal)) (bytes buffer : List ℕ) (why : Refusal) → written tests bytes buffer ≡ Refused why → bufferAfter tests bytes buffer ≡ buffer
+  pub writes-no-more : (tests : List (Bool × Refusal)) (bytes buffer : List ℕ) (n : ℕ) → written tests bytes buffer ≡ Wrote n → Kept bytes buffer (bufferAfter tests bytes buffer) n
+  -- a block that is refused gives the all-zero table
+  pub gives-no-table : (block : List ℕ) (why : Refusal) (place : ℕ) → readBlock block .answer ≡ BlockRefused why place → readBlock block .table ≡ zeroTable
