@@ -1,7 +1,7 @@
 -- Proofs by cases on a test or on an order, and what joined tests say.
 -- To use: `by-test`, `by-order` and `pick` give each case its fact; `search (and-l, and-r, leb-true)` takes a joined test apart.
 -- Assumes nothing.
-use mathlib.Core.Path.{_≡_, refl, ap, _∙_}
+use mathlib.Core.Path.{_≡_, refl, sym, ap, _∙_}
 use mathlib.Core.Logic.{_⊎_, inl, inr}
 use mathlib.Core.Bool.{Bool, true, false, cond, _&&_, _||_}
 use Prim.Native.Nat.{ℕ, zero, suc, _≤_, _<_}
@@ -58,6 +58,12 @@ or-l b p = rw p
 pub or-r : (a : Bool) {b : Bool} → b ≡ true → (a || b) ≡ true
 or-r true p = refl
 or-r false p = p
+
+-- two tests that pass together are one
+pub by-truth : (a b : Bool) → (a ≡ true → b ≡ true) → (b ≡ true → a ≡ true) → a ≡ b
+by-truth true b f g = sym (f refl)
+by-truth false true f g = g refl
+by-truth false false f g = refl
 
 -- ---- a test at each number below n
 

@@ -3,8 +3,8 @@
 -- Assumes nothing.
 use mathlib.Core.Path.{_≡_, refl, sym, ap, _∙_}
 use mathlib.Core.List.{List, [], _∷_, _++_, append-assoc, append-nil}
-use Prim.Native.Nat.{ℕ, suc, _+_, _-_, _≤_, _<_}
-use native.Mathlib.Nat.{zero-add, add-zero}
+use Prim.Native.Nat.{ℕ, zero, suc, _+_, _-_, _≤_, _<_, min}
+use native.Mathlib.Nat.{zero-add, add-zero, zero-min, min-zero, suc-min-suc}
 use native.Mathlib.Numerals.{add-one}
 use native.Mathlib.Omega.{arith}
 use lib.ListN.{length, take, drop, getD, set, length-append, length-take, length-drop, take-append-drop, drop-of-length-le, replicate, length-replicate, getD-replicate, List·getD-append, List·getD-eq-default}
@@ -99,3 +99,9 @@ module _ {A : Type 0} where
   pub replicate-same : (v : A) (n k : ℕ) → getD (replicate n v) k v ≡ v
   replicate-same v n k =
       by-order k n (λ l. getD-replicate n k v v l) (λ l. List·getD-eq-default (replicate n v) v (omega (arith, length-replicate n v)))
+
+  -- a front as long as the list or shorter
+  pub take-min : (m : ℕ) (l : List A) → take (min (length l) m) l ≡ take m l
+  take-min zero l = rw min-zero
+  take-min (suc m) [] = rw zero-min
+  take-min (suc m) (x ∷ l) = rw suc-min-suc (ap (λ (r : List A). x ∷ r) (take-min m l))

@@ -1,0 +1,6 @@
+pub mod Pictures
+pub mod Parts
+pub mod Guess
+pub mod Text
+pub mod Promise
+pub mod Desk

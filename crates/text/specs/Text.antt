@@ -1,0 +1,104 @@
+-- The calls: what a text is read as, and what is written for an instant.
+-- Assumes nothing.
+use mathlib.Core.Bool.{Bool, cond, _&&_}
+use mathlib.Core.List.{List, [], _∷_}
+use Prim.Native.Nat.{ℕ}
+use lib.Dec.{eqb, leb}
+use lib.IntN.{ℤ, pos}
+use Rattle.answer.specs.declared.Refusal.{Refusal}
+use Rattle.answer.specs.declared.Refusal.the-variants.{Shape as SHAPE, Range as RANGE, Ask as ASK, Table as TABLE}
+use Rattle.answer.specs.declared.Written.{Written}
+use Rattle.answer.specs.Refusals.{number, refusing}
+use Rattle.answer.specs.Buffers.{written, bufferAfter}
+use Rattle.calendar.specs.declared.MonthDay.{MonthDay}
+use Rattle.calendar.specs.declared.YearDate.{YearDate}
+use Rattle.calendar.specs.declared.YearDate.the-variants.{On, Nothing}
+use Rattle.calendar.specs.Calendar.{dayOfYear}
+use Rattle.calendar.specs.Dates.{dateInYear}
+use Rattle.leap.specs.declared.Table.{Table}
+use Rattle.leap.specs.Leap.{accepted}
+use Rattle.stamp.specs.declared.Scale.{Scale}
+use Rattle.stamp.specs.declared.Scale.the-variants.{Utc}
+use Rattle.stamp.specs.declared.Label.{Label}
+use Rattle.stamp.specs.declared.Reading.{Reading}
+use Rattle.stamp.specs.declared.Stamp.{Stamp}
+use Rattle.stamp.specs.Labels.{label, monthOf, asked}
+use Rattle.stamp.specs.Instants.{scaleOf, offsetsOf, mostSecond, instantOf}
+use Rattle.stamp.specs.Stamps.{inRange, stampAt}
+use Rattle.stamp.specs.Promise.{stamp}
+use Rattle.text.specs.declared.Date.{Date}
+use Rattle.text.specs.declared.Date.the-variants.{Numbered, OfYear, Named}
+use Rattle.text.specs.declared.Fields.{Fields}
+use Rattle.text.specs.declared.TextAnswer.{TextAnswer}
+use Rattle.text.specs.declared.TextAnswer.the-variants.{Read, Refused}
+use Rattle.text.specs.Pictures.{pictureText}
+use Rattle.text.specs.Guess.{guessed, hasPicture}
+
+-- ---- reading
+
+abbrev pub on : ℕ → ℕ → MonthDay
+on m d = record { month = m; day = d }
+
+-- a date that there is; month 0, which is none, where there is not
+abbrev pub dateOr : YearDate → MonthDay
+dateOr (On r) = r
+dateOr Nothing = on 0 0
+
+-- the month and the day of a date in year y
+abbrev pub dateOf : ℕ → Date → MonthDay
+dateOf y (Numbered m d) = on m d
+dateOf y (OfYear d) = dateOr (dateInYear y d)
+dateOf y (Named m d) = on m d
+
+abbrev pub readingOf : Fields → Reading
+readingOf f =
+    record {
+      label = label (f .year) (dateOf (f .year) (f .date) .month) (dateOf (f .year) (f .date) .day) (f .hour) (f .minute) (f .second);
+      micro = f .micro;
+    }
+
+-- a reading is judged as a stamp's fields are
+abbrev pub readAnswer : Table → Scale → Reading → TextAnswer
+readAnswer t s r = refusing Refused (asked (offsetsOf t s) (mostSecond s) r) (Read (instantOf t s r) (stamp s r))
+
+-- `read_text`: what is asked before that, in this order, and the answer
+abbrev pub readTests : Table → ℕ → List ℕ → List (Bool × Refusal)
+readTests t k text = (leb k 3, ASK) ∷ (accepted t, TABLE) ∷ (hasPicture text, SHAPE) ∷ []
+
+unfoldable pub textAnswer : Table → ℕ → List ℕ → TextAnswer
+textAnswer t k text = refusing Refused (readTests t k text) (readAnswer t (scaleOf k) (readingOf (guessed text)))
+
+-- an answer in document 01's numbers: that of the refusal, 0 on success; the instant and the stamp, all zero after a refusal
+abbrev pub answered : TextAnswer → ℕ × ℤ × Stamp
+answered (Read x z) = (0, x, z)
+answered (Refused why) = (number why, pos 0, stamp Utc (record { label = label 0 0 0 0 0 0; micro = 0 }))
+
+-- ---- writing
+
+-- the date of a label in picture p
+abbrev pub dateAs : ℕ → Label → Date
+dateAs p l =
+    cond (eqb p 0) (Numbered (l .month) (l .day))
+    (cond (eqb p 1) (OfYear (dayOfYear (monthOf l) (l .day))) (Named (l .month) (l .day)))
+
+abbrev pub fieldsOf : ℕ → ℕ → Reading → Fields
+fieldsOf p digits r =
+    record { year = r .label .year; date = dateAs p (r .label); hour = r .label .hour; minute = r .label .minute; second = r .label .second; digits = digits; micro = r .micro }
+
+-- the text of a reading in picture p with this number of digits after the point
+abbrev pub textOf : ℕ → ℕ → Reading → List ℕ
+textOf p digits r = pictureText (fieldsOf p digits r)
+
+-- `write_text`: what is asked, in this order, and the text
+abbrev pub writeTests : Table → ℤ → ℕ → ℕ → ℕ → List (Bool × Refusal)
+writeTests t x p k digits = (leb p 2 && (leb digits 6 && leb k 3), ASK) ∷ (accepted t, TABLE) ∷ (inRange t (scaleOf k) x, RANGE) ∷ []
+
+abbrev pub textAt : Table → ℤ → ℕ → ℕ → ℕ → List ℕ
+textAt t x p k digits = textOf p digits (stampAt t (scaleOf k) x .reading)
+
+-- its answer, and the lent buffer afterwards
+abbrev pub writeAnswer : Table → ℤ → ℕ → ℕ → ℕ → List ℕ → Written
+writeAnswer t x p k digits buffer = written (writeTests t x p k digits) (textAt t x p k digits) buffer
+
+abbrev pub bufferThen : Table → ℤ → ℕ → ℕ → ℕ → List ℕ → List ℕ
+bufferThen t x p k digits buffer = bufferAfter (writeTests t x p k digits) (textAt t x p k digits) buffer
