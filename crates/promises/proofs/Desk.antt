@@ -1,0 +1,29 @@
+-- The night desk's proved rows, from the rows of the crates `text` and `block`.
+-- Assumes nothing.
+use mathlib.Core.Path.{_≡_, refl, ap}
+use mathlib.Core.List.{List}
+use Prim.Native.Nat.{ℕ}
+use lib.IntN.{ℤ}
+use Rattle.leap.specs.declared.Table.{Table}
+use Rattle.stamp.specs.declared.Stamp.{Stamp}
+use Rattle.answer.specs.declared.Refusal.{Refusal}
+use Rattle.answer.specs.Refusals.{number}
+use Rattle.text.specs.declared.TextAnswer.{TextAnswer}
+use Rattle.text.specs.declared.TextAnswer.the-variants.{Read, Refused}
+use Rattle.text.specs.Text.{textAnswer, answered}
+use Rattle.text.proofs.Worked as text
+use Rattle.block.proofs.Worked as block
+use Rattle.promises.specs.Worked.{rows, AllRight}
+
+read : {a : TextAnswer} {x : ℤ} {z : Stamp} → a ≡ Read x z → (answered a .0 ≡ 0) × (answered a .1 ≡ x)
+read e = rw e (refl, refl)
+
+not-read : {a : TextAnswer} {why : Refusal} → a ≡ Refused why → answered a .0 ≡ number why
+not-read e = rw e refl
+
+pub worked : AllRight rows
+worked =
+    let w = text.worked in
+    let w5 = w .1 .1 .1 .1 .1 in
+    let b = block.worked .1 .1 .1 .1 in
+    (read (w .0), (read (w .1 .0), (read (w .1 .1 .0), (read (w .1 .1 .1 .0), (read (w .1 .1 .1 .1 .0), (not-read (w5 .0), (read (w5 .1 .0), (read (w5 .1 .1 .0), (read (w5 .1 .1 .1 .0), (not-read (w5 .1 .1 .1 .1 .0), b))))))))))
