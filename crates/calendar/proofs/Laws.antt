@@ -93,10 +93,6 @@ unfolding daysBefore
 rise zero m = simp add-zero (omega arith)
 rise (suc n) m = rw add-suc (omega (arith, rise n m, length-least (m + n), length-most (m + n)))
 
-pub days-least : (m : ℕ) → 28 * m ≤ daysBefore m
-unfolding daysBefore
-days-least m = omega (arith, rise m 0, ap daysBefore (zero-add m))
-
 pub days-most : (m : ℕ) → daysBefore m ≤ 31 * m
 unfolding daysBefore
 days-most m = omega (arith, rise m 0, ap daysBefore (zero-add m))

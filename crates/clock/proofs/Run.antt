@@ -6,7 +6,6 @@ use mathlib.Core.Bool.{true}
 use mathlib.Core.List.{[], _∷_}
 use Prim.Native.Nat.{ℕ, zero, suc, _+_, _-_, _*_, _≤_, _<_}
 use native.Mathlib.Omega.{arith}
-use borrow.Author.Tests.{le-leb, lt-ltb}
 use lib.IntN.{pos, negℤ}
 use lib.Dec.{leb}
 use lib.Signed.{leZ}
@@ -25,7 +24,7 @@ use Rattle.stamp.specs.declared.Label.{Label}
 use Rattle.stamp.specs.declared.InstantAnswer.the-variants.{At as InstantAt, Refused as InstantRefused}
 use Rattle.stamp.specs.declared.Stamp.{Stamp}
 use Rattle.stamp.specs.declared.StampAnswer.the-variants.{Stamped}
-use Rattle.stamp.specs.Labels.{Offsets, monthOf, realYear, realMonth, realDay, realClock, hasSecond, asked, secondOf}
+use Rattle.stamp.specs.Labels.{Offsets, monthOf, asked, secondOf}
 use Rattle.stamp.specs.Instants.{instantOf, instantAnswer}
 use Rattle.stamp.specs.Stamps.{first as firstReading, last as lastReading, inRange}
 use Rattle.stamp.specs.Promise.{Reads, stamp}
@@ -35,6 +34,7 @@ use Rattle.stamp.proofs.Place.{before-later}
 use Rattle.stamp.proofs.Exists.{second-few, second-falls}
 use Rattle.stamp.proofs.Order.{order, order-back}
 use Rattle.stamp.proofs.Ends.{instant-is, first-second, last-second, days-last, days-end}
+use Rattle.stamp.proofs.Admitted.{admitted-from}
 use Rattle.stamp.proofs.Undone.{reads-exists, reads-in-range, undo}
 use Rattle.clock.specs.declared.TickAnswer.{TickAnswer}
 use Rattle.clock.specs.declared.TickAnswer.the-variants.{Next, Refused}
@@ -72,14 +72,16 @@ module _ (t : Table) (ok : accepted t ≡ true) where
   -- ---- a label at a second, and the conversions
 
   admitted-at : (l : Label) (s : ℕ) → At o l s → admits t l ≡ true
-  unfolding o realYear realMonth realDay realClock hasSecond
+  unfolding o
   admitted-at l s a =
       let e = a .exists in
-      join (join (le-leb _ _ (a .since-1972)) (le-leb _ _ (a .until-9999)))
-      (join (join (le-leb _ _ (e .month-low)) (le-leb _ _ (e .month-high)))
-      (join (join (le-leb _ _ (e .day-low)) (le-leb _ _ (e .day-high)))
-      (join (join (le-leb _ _ (e .hour-high)) (join (le-leb _ _ (e .minute-high)) (join (le-leb _ _ (second-few o st l e)) refl)))
-      (join (lt-ltb _ _ (e .second-high)) refl))))
+      admitted-from (offsetAt t) 60 (whole l)
+      (record {
+        since-1972 = a .since-1972;
+        until-9999 = a .until-9999;
+        exists = e;
+        on-clock = record { hour-high = e .hour-high; minute-high = e .minute-high; second-most = second-few (offsetAt t) st l e; micro-high = omega arith };
+      })
 
   instant-at : (l : Label) (n : ℕ) → At o l (tai n) → instantOf t Utc (whole l) ≡ secondsOn n
   unfolding o tai

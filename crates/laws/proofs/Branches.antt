@@ -1,28 +1,17 @@
 -- What the code's branches show, in the definitions' words: a ladder of tests, or of choices, answered rung by rung.
 -- To use: at a `return`, one `-rest` for each test that passed and one `-no` or `-yes` for the one that decided.
 -- Assumes nothing.
-use mathlib.Core.Path.{_≡_, sym, ap, _∙_}
-use mathlib.Core.Logic.{_⊎_, inl, inr}
-use mathlib.Core.Bool.{Bool, true, false, not, cond, _&&_, _||_, and-false}
-use Prim.Native.Nat.{ℕ, zero, suc, _+_, _≤_, _<_}
-use native.Mathlib.Numerals.{add-one}
-use native.Mathlib.Omega.{arith}
+use mathlib.Core.Path.{_≡_, sym, _∙_}
+use mathlib.Core.Bool.{Bool, true, false, not, cond, _&&_}
+use Prim.Native.Nat.{ℕ, _≤_, _<_}
 use borrow.Author.Tests.{not-true, not-false, lt-ltb, le-ltb}
 use lib.Dec.{ltb}
-use Rattle.laws.specs.Tests.{allBelow}
-use Rattle.laws.proofs.Cases.{lt-cases}
 
 pub and-no : {a : Bool} (b : Bool) → a ≡ false → false ≡ (a && b)
 and-no b p = rw p
 
 pub and-rest : {a b r : Bool} → a ≡ true → r ≡ b → r ≡ (a && b)
 and-rest p q = rw p q
-
-pub or-yes : {a : Bool} (b : Bool) → a ≡ true → true ≡ (a || b)
-or-yes b p = rw p
-
-pub or-rest : {a b r : Bool} → a ≡ false → r ≡ b → r ≡ (a || b)
-or-rest p q = rw p q
 
 pub cond-yes : {A : Type 0} {b : Bool} {r x : A} (y : A) → b ≡ true → r ≡ x → r ≡ cond b x y
 cond-yes y p q = rw p q
@@ -43,19 +32,3 @@ fails p q = sym p ∙ not-true _ q
 
 pub holds : {b r : Bool} → r ≡ b → not r ≡ false → b ≡ true
 holds p q = sym p ∙ not-false _ q
-
--- ---- a test of all below a number, one by one
-
-pub all-more : (f : ℕ → Bool) (k : ℕ) {r : Bool} → allBelow f k ≡ true → r ≡ f k → r ≡ true → allBelow f (k + 1) ≡ true
-unfolding allBelow
-all-more f k p q s = rw (add-one k, p) (sym q ∙ s)
-
-pub all-fails : (f : ℕ → Bool) (n k : ℕ) → k < n → f k ≡ false → allBelow f n ≡ false
-unfolding allBelow
-all-fails f zero k h e = absurd (omega arith)
-all-fails f (suc n) k h e = go (lt-cases k n) (λ q. all-fails f n k q e)
-  where
-    go : (k < n) ⊎ ((k ≡ n) ⊎ (n < k)) → (k < n → allBelow f n ≡ false) → (allBelow f n && f n) ≡ false
-    go (inl q) ih = rw (ih q)
-    go (inr (inl q)) ih = rw (sym (ap f q) ∙ e) (and-false (allBelow f n))
-    go (inr (inr q)) ih = absurd (omega arith)

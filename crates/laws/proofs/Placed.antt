@@ -1,7 +1,7 @@
 -- Lists placed in lists: what `over` and `place` cover, keep and join. Elements are read with `getD`, at a default of any value.
 -- To use: rewrite by the law for the element, the length or the next piece that the goal speaks of.
 -- Assumes nothing.
-use mathlib.Core.Path.{_≡_, refl, sym, ap, _∙_}
+use mathlib.Core.Path.{_≡_, sym, ap, _∙_}
 use mathlib.Core.List.{List, [], _∷_, _++_, append-assoc, append-nil}
 use Prim.Native.Nat.{ℕ, zero, suc, _+_, _-_, _≤_, _<_, min}
 use native.Mathlib.Nat.{zero-add, add-zero, zero-min, min-zero, suc-min-suc}

@@ -5,7 +5,6 @@ use mathlib.Core.Bool.{true}
 use mathlib.Core.List.{[], _∷_}
 use Prim.Native.Nat.{ℕ, _+_, _-_, _*_, _/_, _%_, _≤_}
 use native.Mathlib.Omega.{arith}
-use borrow.Author.Tests.{le-leb, lt-ltb}
 use lib.Dec.{leb}
 use lib.IntN.{ℤ, pos, negsuc}
 use lib.Signed.{_≤ℤ_}
@@ -26,51 +25,16 @@ use Rattle.stamp.specs.declared.InstantAnswer.the-variants.{At, Refused 
 use Rattle.stamp.specs.declared.StampAnswer.the-variants.{Stamped, Refused as StampRefused}
 use Rattle.stamp.specs.declared.Label.{Label}
 use Rattle.stamp.specs.declared.Reading.{Reading}
-use Rattle.stamp.specs.Labels.{Offsets, monthOf, realYear, realMonth, realDay, realClock, hasSecond, secondOf, asked, admitted}
+use Rattle.stamp.specs.Labels.{Offsets, monthOf, secondOf, asked}
 use Rattle.stamp.specs.Instants.{scaleOf, instantAnswer, fixed, offsetsOf, mostSecond, instantOf, countOf}
 use Rattle.stamp.specs.Stamps.{stampAnswer, first, last, inRange, inMonth, since, labelAt, readingAt, stampAt}
 use Rattle.stamp.specs.Promise.{Reads, stamp, Undo}
-use Rattle.stamp.proofs.Facts.{year-to, month-to, day-to, OnClock, clock-to, second-to}
+use Rattle.stamp.proofs.Admitted.{Admitted, admitted-to, admitted-from}
 use Rattle.stamp.proofs.Turn.{Steps, steps}
 use Rattle.stamp.proofs.Place.{In, Begun, Before, before-later, month-at}
 use Rattle.stamp.proofs.Exists.{Exists, label-exists, label-second, label-month, second-falls, label-back, second-few, second-uniform}
 use Rattle.stamp.proofs.Guess.{falls, label-is, not-past, not-early}
 use Rattle.stamp.proofs.Ends.{instant-is, count-is, first-second, last-second, days-end, range-count, range-begins, range-ends, range-low, range-high}
-
--- ---- an admitted reading
-
-record Admitted (o : Offsets) (most : ℕ) (r : Reading) : Type 0 where
-  since-1972 : 1972 ≤ r .label .year
-  until-9999 : r .label .year ≤ 9999
-  exists : Exists o (r .label)
-  on-clock : OnClock most r
-
-admitted-to : (o : Offsets) (most : ℕ) (r : Reading) → admitted o most r ≡ true → Admitted o most r
-admitted-to o most r e =
-    let y : realYear (r .label) ≡ true = search (and-l) in
-    let m : realMonth (r .label) ≡ true = search (and-l, and-r) in
-    let d : realDay (r .label) ≡ true = search (and-l, and-r) in
-    let k : realClock most r ≡ true = search (and-l, and-r) in
-    let h : hasSecond o (r .label) ≡ true = search (and-l, and-r) in
-    let y′ = year-to _ y in
-    let m′ = month-to _ m in
-    let d′ = day-to _ d in
-    let k′ = clock-to _ _ k in
-    record {
-      since-1972 = y′ .0;
-      until-9999 = y′ .1;
-      exists = record { month-low = m′ .0; month-high = m′ .1; day-low = d′ .0; day-high = d′ .1; hour-high = k′ .hour-high; minute-high = k′ .minute-high; second-high = second-to _ _ h };
-      on-clock = k′;
-    }
-
-admitted-from : (o : Offsets) (most : ℕ) (r : Reading) → Admitted o most r → admitted o most r ≡ true
-unfolding realYear realMonth realDay realClock hasSecond
-admitted-from o most r a =
-    join (join (le-leb _ _ (a .since-1972)) (le-leb _ _ (a .until-9999)))
-    (join (join (le-leb _ _ (a .exists .month-low)) (le-leb _ _ (a .exists .month-high)))
-    (join (join (le-leb _ _ (a .exists .day-low)) (le-leb _ _ (a .exists .day-high)))
-    (join (join (le-leb _ _ (a .exists .hour-high)) (join (le-leb _ _ (a .exists .minute-high)) (join (le-leb _ _ (a .on-clock .second-most)) (le-leb _ _ (a .on-clock .micro-high)))))
-    (join (lt-ltb _ _ (a .exists .second-high)) refl))))
 
 -- the highest second of a scale
 most-of : (t : Table) → Accepted t → (sc : Scale) (l : Label) → Exists (offsetsOf t sc) l → l .second ≤ mostSecond sc

@@ -1,18 +1,16 @@
--- The calls' answers from those of `stamp`, and what an admitted reading's numbers are.
+-- The calls' answers from those of `stamp`.
 -- Assumes nothing.
 use mathlib.Core.Path.{_≡_, ap, _∙_}
 use mathlib.Core.Bool.{true}
 use mathlib.Core.List.{[], _∷_}
-use Prim.Native.Nat.{ℕ, _≤_}
+use Prim.Native.Nat.{ℕ}
 use native.Mathlib.Omega.{arith}
 use lib.Dec.{leb}
 use lib.IntN.{ℤ}
-use Rattle.laws.proofs.Cases.{and-l, and-r}
 use Rattle.answer.specs.declared.Refusal.{Refusal}
 use Rattle.answer.specs.declared.Refusal.the-variants.{Range as RANGE, Ask as ASK, Table as TABLE}
 use Rattle.answer.specs.Refusals.{refusing}
 use Rattle.answer.proofs.Orders.{refusing-map}
-use Rattle.calendar.specs.Calendar.{monthLength}
 use Rattle.calendar.proofs.Laws.{length-most}
 use Rattle.leap.specs.declared.Table.{Table}
 use Rattle.leap.specs.Leap.{accepted}
@@ -23,11 +21,11 @@ use Rattle.stamp.specs.declared.InstantAnswer.{InstantAnswer}
 use Rattle.stamp.specs.declared.InstantAnswer.the-variants.{At, Refused as InstantRefused}
 use Rattle.stamp.specs.declared.StampAnswer.{StampAnswer}
 use Rattle.stamp.specs.declared.StampAnswer.the-variants.{Stamped, Refused as StampRefused}
-use Rattle.stamp.specs.Labels.{Offsets, monthOf, asked, admitted}
+use Rattle.stamp.specs.Labels.{monthOf, asked}
 use Rattle.stamp.specs.Instants.{scaleOf, offsetsOf, mostSecond, instantOf, fieldsAnswer}
 use Rattle.stamp.specs.Stamps.{inRange, stampAt, stampAnswer}
 use Rattle.stamp.specs.Promise.{Reads, stamp}
-use Rattle.stamp.proofs.Facts.{year-to, month-to, day-to, OnClock, clock-to}
+use Rattle.stamp.proofs.Admitted.{admitted-to}
 use Rattle.stamp.proofs.Undone.{undo}
 use Rattle.text.specs.declared.TextAnswer.{TextAnswer}
 use Rattle.text.specs.declared.TextAnswer.the-variants.{Read, Refused}
@@ -58,23 +56,7 @@ module _ {A : Type 0} (refuse : Refusal → A) (a : A) where
       rw (ep, ed)
       (ap asWritten e ∙ refusing-map asWritten StampRefused ((leb k 3, ASK) ∷ (accepted t, TABLE) ∷ (inRange t (scaleOf k) x, RANGE) ∷ []) (Stamped (stampAt t (scaleOf k) x)))
 
--- ---- an admitted reading
-
-pub record Real (most : ℕ) (r : Reading) : Type 0 where
-  pub year-low : 1972 ≤ r .label .year
-  pub year-high : r .label .year ≤ 9999
-  pub month-low : 1 ≤ r .label .month
-  pub month-high : r .label .month ≤ 12
-  pub day-low : 1 ≤ r .label .day
-  pub day-high : r .label .day ≤ monthLength (monthOf (r .label))
-  pub on-clock : OnClock most r
-
-pub real : (o : Offsets) (most : ℕ) (r : Reading) → admitted o most r ≡ true → Real most r
-real o most r e =
-    let y = year-to (r .label) (search (and-l)) in
-    let m = month-to (r .label) (search (and-l, and-r)) in
-    let d = day-to (r .label) (search (and-l, and-r)) in
-    record { year-low = y .0; year-high = y .1; month-low = m .0; month-high = m .1; day-low = d .0; day-high = d .1; on-clock = clock-to most r (search (and-l, and-r)) }
+-- ---- the reading of a stamp
 
 -- the reading of an instant's stamp is admitted and stands for the instant
 pub stamp-reads : (t : Table) (k : ℕ) (x : ℤ) {z : Stamp} → stampAnswer t x k ≡ Stamped z → Reads t (scaleOf k) (z .reading) x
@@ -82,5 +64,6 @@ stamp-reads t k x {z} e = undo t k .reads (z .reading) x (undo t k .instant-back
 
 pub stamp-plain : (t : Table) (k : ℕ) (x : ℤ) {z : Stamp} → stampAnswer t x k ≡ Stamped z → Plain (z .reading .label)
 stamp-plain t k x {z} e =
-    let r = real (offsetsOf t (scaleOf k)) (mostSecond (scaleOf k)) (z .reading) (stamp-reads t k x e .is-admitted) in
-    record { year = r .year-high; month-low = r .month-low; month-high = r .month-high; day = omega (arith, length-most (monthOf (z .reading .label)), r .day-high) }
+    let a = admitted-to (offsetsOf t (scaleOf k)) (mostSecond (scaleOf k)) (z .reading) (stamp-reads t k x e .is-admitted) in
+    let r = a .exists in
+    record { year = a .until-9999; month-low = r .month-low; month-high = r .month-high; day = omega (arith, length-most (monthOf (z .reading .label)), r .day-high) }

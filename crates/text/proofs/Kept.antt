@@ -21,7 +21,7 @@ use Rattle.calendar.proofs.Years.{date-back, day-back}
 use Rattle.leap.specs.declared.Table.{Table}
 use Rattle.stamp.specs.declared.Reading.{Reading}
 use Rattle.stamp.specs.declared.Stamp.{Stamp}
-use Rattle.stamp.specs.Labels.{monthOf, asked}
+use Rattle.stamp.specs.Labels.{Offsets, monthOf, asked}
 use Rattle.stamp.specs.Instants.{scaleOf, offsetsOf, mostSecond, instantOf}
 use Rattle.stamp.specs.Promise.{stamp}
 use Rattle.stamp.proofs.Facts.{most-sixty}
@@ -35,7 +35,7 @@ use Rattle.text.specs.Guess.{guessed, hasPicture}
 use Rattle.text.specs.Text.{on, dateOr, dateOf, readingOf, readAnswer, readTests, textAnswer, answered, dateAs, fieldsOf}
 use Rattle.text.specs.Promise.{Pictured, Determined, Sized, Names, Exactly}
 use Rattle.text.proofs.Pictured.{picture-is, has-picture}
-use Rattle.text.proofs.Answers.{Real, real}
+use Rattle.stamp.proofs.Admitted.{Admitted, admitted-to}
 
 -- ---- pictures
 
@@ -58,27 +58,27 @@ sized (suc (suc (suc p))) digits r h g = absurd (omega arith)
 
 -- ---- the fields of an admitted reading
 
-module _ (most : ℕ) (r : Reading) (a : Real most r) (few : most ≤ 60) where
+module _ (o : Offsets) (most : ℕ) (r : Reading) (a : Admitted o most r) (few : most ≤ 60) where
   reading-back : (p digits : ℕ) → p ≤ 2 → readingOf (fieldsOf p digits r) ≡ r
   reading-back zero digits h = refl
   reading-back (suc zero) digits h =
-      rw (date-back (r .label .year) (on (r .label .month) (r .label .day)) (record { month-low = a .month-low; month-high = a .month-high; day-low = a .day-low; day-high = a .day-high }))
+      rw (date-back (r .label .year) (on (r .label .month) (r .label .day)) (record { month-low = a .exists .month-low; month-high = a .exists .month-high; day-low = a .exists .day-low; day-high = a .exists .day-high }))
   reading-back (suc (suc zero)) digits h = refl
   reading-back (suc (suc (suc p))) digits h = absurd (omega arith)
 
   date-fits : (p : ℕ) → p ≤ 2 → DateFits (dateAs p (r .label))
-  date-fits zero h = omega (arith, a .month-high, a .day-high, length-most (monthOf (r .label)))
+  date-fits zero h = omega (arith, a .exists .month-high, a .exists .day-high, length-most (monthOf (r .label)))
   date-fits (suc zero) h =
       let m = monthOf (r .label) in
       let parts : 12 * (m / 12) + m % 12 ≡ m = omega arith in
-      omega (arith, ap daysBefore parts, rise (m % 12) (12 * (m / 12)), a .day-high, length-most m)
-  date-fits (suc (suc zero)) h = omega (arith, a .month-low, a .month-high, a .day-high, length-most (monthOf (r .label)))
+      omega (arith, ap daysBefore parts, rise (m % 12) (12 * (m / 12)), a .exists .day-high, length-most m)
+  date-fits (suc (suc zero)) h = omega (arith, a .exists .month-low, a .exists .month-high, a .exists .day-high, length-most (monthOf (r .label)))
   date-fits (suc (suc (suc p))) h = absurd (omega arith)
 
   well-formed : (p digits : ℕ) → p ≤ 2 → digits ≤ 6 → r .micro % 10 ^ (6 - digits) ≡ 0 → WellFormed (fieldsOf p digits r)
   well-formed p digits h g e =
       let c = a .on-clock in
-      record { year = omega (arith, a .year-high); date = date-fits p h; hour = omega (arith, c .hour-high); minute = omega (arith, c .minute-high); second = omega (arith, c .second-most); digits = g; micro = omega (arith, c .micro-high); shown = e }
+      record { year = omega (arith, a .until-9999); date = date-fits p h; hour = omega (arith, c .hour-high); minute = omega (arith, c .minute-high); second = omega (arith, c .second-most); digits = g; micro = omega (arith, c .micro-high); shown = e }
 
 -- and back: an admitted reading of fields has these fields, in the picture of their date
 picture-of : Date → ℕ
@@ -113,11 +113,11 @@ module _ (t : Table) (k : ℕ) (text : List ℕ) where
   reads-as x r n =
       let o = offsetsOf t (scaleOf k) in
       let most = mostSecond (scaleOf k) in
-      let a = real o most r (n .reads .is-admitted) in
+      let a = admitted-to o most r (n .reads .is-admitted) in
       let s = n .shows in
-      let w = well-formed most r a (most-sixty (scaleOf k)) (s .picture) (s .digits) (s .a-picture) (s .a-number) (s .enough) in
+      let w = well-formed o most r a (most-sixty (scaleOf k)) (s .picture) (s .digits) (s .a-picture) (s .a-number) (s .enough) in
       let p = has-picture (fieldsOf (s .picture) (s .digits) r) w in
-      let e : readingOf (guessed text) ≡ r = ap (λ (l : List ℕ). readingOf (guessed l)) (s .text-is) ∙ ap readingOf (p .1) ∙ reading-back most r a (most-sixty (scaleOf k)) (s .picture) (s .digits) (s .a-picture) in
+      let e : readingOf (guessed text) ≡ r = ap (λ (l : List ℕ). readingOf (guessed l)) (s .text-is) ∙ ap readingOf (p .1) ∙ reading-back o most r a (most-sixty (scaleOf k)) (s .picture) (s .digits) (s .a-picture) in
       none-refused Refused (readTests t k text) _ (join (le-leb k 3 (n .known)) (join (n .good) (join (ap hasPicture (s .text-is) ∙ p .0) refl)))
       ∙ ap (readAnswer t (scaleOf k)) e
       ∙ none-refused Refused (asked o most r) _ (n .reads .is-admitted)
@@ -142,12 +142,12 @@ module _ (t : Table) (k : ℕ) (text : List ℕ) where
       let q = was-passed Refused (asked o most r) (Read (instantOf t (scaleOf k) r) (stamp (scaleOf k) r)) (Read x z) (no-read x z) (p .1) in
       let same : stamp (scaleOf k) r ≡ z = is-stamp (q .1) in
       let w = picture-is text (search (and-l, and-r)) in
-      let a = real o most r (q .0) in
+      let a = admitted-to o most r (q .0) in
       let names : Names t k text x r =
       record {
         known = leb-true k 3 (and-l (leb k 3) _ (p .0));
         good = search (and-l, and-r);
-        shows = record { picture = picture-of (f .date); digits = f .digits; a-picture = a-picture (f .date); a-number = w .0 .digits; enough = w .0 .shown; text-is = w .1 ∙ ap pictureText (sym (fields-back (f .year) (f .hour) (f .minute) (f .second) (f .digits) (f .micro) (f .date) (a .month-low))) };
+        shows = record { picture = picture-of (f .date); digits = f .digits; a-picture = a-picture (f .date); a-number = w .0 .digits; enough = w .0 .shown; text-is = w .1 ∙ ap pictureText (sym (fields-back (f .year) (f .hour) (f .minute) (f .second) (f .digits) (f .micro) (f .date) (a .exists .month-low))) };
         reads = record { is-admitted = q .0; instant-is = is-instant (q .1) };
       } in
       (ap (λ (y : Stamp). y .scale) (sym same), subst (λ (y : Stamp). Names t k text x (y .reading)) same names)
