@@ -1,0 +1,28 @@
+use Prim.Native.Nat.{_-_, _≤_}
+use borrow.Author.Needs.{needs}
+use Rattle.calls.proofs.answers.pairs.Statement.{statement}
+use Rattle.calls.proofs.answers.pairs.Tie as tie
+
+abbrev Inv-loop : tie.InvT-loop
+Inv-loop line k months₀ offsets₀ c₀ i₀ months offsets c i = i ≤ 64
+
+abbrev μ-loop : tie.MeasureT-loop
+μ-loop line k months₀ offsets₀ c₀ i₀ months offsets c i = 64 - i
+
+pub pairs-spec : {M : Type 1} → statement M
+pairs-spec =
+    tie.close
+    (tie.spec
+    Inv-loop
+    μ-loop
+    (λ c. search needs)
+    (λ c κs. search needs)
+    (λ c κs. search needs)
+    (λ c. search needs)
+    (λ c. search needs)
+    (λ c. search needs)
+    (λ c. search needs)
+    (λ c. search needs)
+    (λ c. search needs)
+    (λ c. search needs)
+    (λ c. search needs))

@@ -1,0 +1,226 @@
+-- Pairs of hex digits, read into a buffer, and the sixteen digits of a double.
+-- Assumes nothing.
+use mathlib.Core.Path.{_≡_, refl, sym, ap, _∙_}
+use mathlib.Core.Bool.{Bool, true, false, cond}
+use mathlib.Core.List.{List, [], _∷_, _++_, append-assoc, append-nil}
+use Prim.Native.Nat.{ℕ, zero, suc, _+_, _-_, _*_, _/_, _^_, _≤_, _<_}
+use native.Mathlib.Numerals.{add-one}
+use native.Mathlib.Nat.{pow-suc, lt-of-lt-of-le, pow-le-pow-right}
+use native.Mathlib.Omega.{arith}
+use borrow.Author.Tests.{lt-ltb, le-ltb, eq-eqb, ne-eqb, le-leb, lt-leb}
+use lib.Dec.{eqb, ltb, leb, lit<}
+use Rattle.laws.proofs.Placed.{place-none}
+use Rattle.lines.proofs.Words.{dash-empty, dash-minus, dash-plain}
+use lib.ListN.{length, take, drop, getD, set, take-append-drop, drop-of-length-le, length-take, length-drop, length-set}
+use lib.Seq.{drop-cons, drop-drop, take-at, take-suc-set, drop-set-lt, length-take-le}
+use Rattle.laws.specs.Placed.{place}
+use Rattle.lines.specs.Hex.{nibble, paired, allPairs, hexOf, hexInto, hexWord, nibbled, patternOf}
+use Rattle.lines.specs.declared.Number.{Number}
+use Rattle.lines.specs.declared.Number.the-variants.{Is, Bad}
+
+-- the two digits at a pair's place
+module _ (s : List ℕ) (i : ℕ) (h : i * 2 + 1 < length s) where
+  pair : drop (i * 2) s ≡ getD s (i * 2) 0 ∷ getD s (i * 2 + 1) 0 ∷ drop ((i + 1) * 2) s
+  pair =
+      let n : suc (suc (i * 2)) ≡ (i + 1) * 2 = omega arith in
+      let m : suc (i * 2) ≡ i * 2 + 1 = omega arith in
+      drop-cons s (i * 2) 0 (omega arith)
+      ∙ ap (λ (l : List ℕ). getD s (i * 2) 0 ∷ l) (drop-cons s (suc (i * 2)) 0 (omega arith))
+      ∙ ap (λ (l : List ℕ). getD s (i * 2) 0 ∷ getD s (suc (i * 2)) 0 ∷ l) (ap (λ (k : ℕ). drop k s) n)
+      ∙ ap (λ (k : ℕ). getD s (i * 2) 0 ∷ getD s k 0 ∷ drop ((i + 1) * 2) s) m
+
+  module _ {a b : ℕ} (p : a ≡ nibble (getD s (i * 2) 0)) (q : b ≡ nibble (getD s (i * 2 + 1) 0)) where
+    pub pair-good : a < 16 → b < 16 → paired (drop (i * 2) s) ≡ (a * 16 + b) ∷ paired (drop ((i + 1) * 2) s)
+    unfolding paired
+    pair-good x y = rw (pair, ← p, ← q, lt-ltb a 16 x, lt-ltb b 16 y)
+
+    pub pair-bad-a : 16 ≤ a → paired (drop (i * 2) s) ≡ []
+    unfolding paired
+    pair-bad-a x = rw (pair, ← p, le-ltb a 16 x)
+
+    pub pair-bad-b : a < 16 → 16 ≤ b → paired (drop (i * 2) s) ≡ []
+    unfolding paired
+    pair-bad-b x y = rw (pair, ← p, ← q, lt-ltb a 16 x, le-ltb b 16 y)
+
+short : (s : List ℕ) → length s ≤ 1 → paired s ≡ []
+unfolding paired
+short [] h = refl
+short (a ∷ []) h = refl
+short (a ∷ b ∷ s) h = absurd (omega arith)
+
+pub pair-end : (s : List ℕ) (i : ℕ) → length s / 2 ≤ i → paired (drop (i * 2) s) ≡ []
+pair-end s i h = short (drop (i * 2) s) (simp length-drop (omega arith))
+
+-- what is stored and what is still to be read are the whole
+pub record Read (w : List ℕ) (start out : List ℕ) (i : ℕ) : Type 0 where
+  pub whole : take i out ++ paired (drop (i * 2) w) ≡ paired w
+  pub rest : drop i out ≡ drop i start
+  pub size : length out ≡ length start
+  pub low : i ≤ length w / 2
+
+pub read-none : (w out : List ℕ) → Read w out out 0
+read-none w out = record { whole = refl; rest = refl; size = refl; low = omega arith }
+
+module _ (w start out : List ℕ) (i : ℕ) (r : Read w start out i) (room : length w / 2 ≤ length start) where
+  pub read-more : (v : ℕ) → i < length w / 2 → paired (drop (i * 2) w) ≡ v ∷ paired (drop ((i + 1) * 2) w) → Read w start (set out i v) (i + 1)
+  read-more v h e = record {
+    whole =
+        let n : i + 1 ≡ suc i = add-one i in
+        ap (λ (k : ℕ). take k (set out i v) ++ paired (drop ((i + 1) * 2) w)) n
+        ∙ ap (λ (l : List ℕ). l ++ paired (drop ((i + 1) * 2) w)) (take-suc-set out i v (omega (arith, r .size)))
+        ∙ append-assoc (take i out) (v ∷ []) _
+        ∙ ap (λ (l : List ℕ). take i out ++ l) (sym e)
+        ∙ r .whole;
+    rest = drop-set-lt (i + 1) out i v (omega arith) ∙ next-rest;
+    size = length-set out i v ∙ r .size;
+    low = omega arith;
+  }
+    where
+      next-rest : drop (i + 1) out ≡ drop (i + 1) start
+      next-rest = sym (drop-drop′ out) ∙ ap (drop 1) (r .rest) ∙ drop-drop′ start
+        where
+          drop-drop′ : (l : List ℕ) → drop 1 (drop i l) ≡ drop (i + 1) l
+          drop-drop′ l = drop-drop 1 i l
+
+  pub read-done : paired (drop (i * 2) w) ≡ [] → (i ≡ length (paired w)) × (out ≡ place start 0 (paired w))
+  read-done e =
+      let f : take i out ≡ paired w = sym (append-nil (take i out)) ∙ ap (λ (l : List ℕ). take i out ++ l) (sym e) ∙ r .whole in
+      let n : i ≡ length (paired w) = sym (length-take-le i out (omega (arith, r .size, r .low))) ∙ ap length f in
+      let z : 0 + length (paired w) ≡ i = omega arith in
+      (n, sym (take-append-drop i out) ∙ ap (λ (l : List ℕ). l ++ drop i out) f ∙ ap (λ (l : List ℕ). paired w ++ l) (r .rest) ∙ ap (λ (k : ℕ). paired w ++ drop k start) (sym z))
+
+-- ---- sixteen digits
+pub nibbled-more : (n i b : ℕ) (s : List ℕ) → i < length s → b ≡ nibble (getD s i 0) → b < 16 → nibbled n (drop i s) ≡ nibbled (n * 16 + b) (drop (i + 1) s)
+unfolding nibbled
+nibbled-more n i b s h e l = rw (drop-cons s i 0 h, ← e, lt-ltb b 16 l, add-one)
+
+pub nibbled-bad : (n i b : ℕ) (s : List ℕ) → i < length s → b ≡ nibble (getD s i 0) → 16 ≤ b → nibbled n (drop i s) ≡ Bad
+unfolding nibbled
+nibbled-bad n i b s h e l = rw (drop-cons s i 0 h, ← e, le-ltb b 16 l)
+
+pub nibbled-end : (n i : ℕ) (s : List ℕ) → length s ≤ i → nibbled n (drop i s) ≡ Is n
+unfolding nibbled
+nibbled-end n i s h = rw (drop-of-length-le s h)
+
+pub pattern-short : (s : List ℕ) → (length s ≡ 16 → ⊥) → Bad ≡ patternOf s
+unfolding patternOf
+pattern-short s h = rw (ne-eqb (length s) 16 h)
+
+pub pattern-of : (s : List ℕ) → length s ≡ 16 → nibbled 0 s ≡ patternOf s
+unfolding patternOf
+pattern-of s h = rw (eq-eqb (length s) 16 h)
+
+pub below : (n i : ℕ) → n < 16 ^ i → i < 16 → n < 16 ^ 15
+below n i h l = lt-of-lt-of-le h (pow-le-pow-right (lit< tt) {i = i} {j = 15} (omega arith))
+
+pub more-digits : (n i b : ℕ) → n < 16 ^ i → b < 16 → n * 16 + b < 16 ^ (i + 1)
+more-digits n i b h l = rw (add-one, pow-suc) (omega arith)
+
+-- ---- a word of pairs in a buffer with room
+module _ (out s : List ℕ) where
+  pub no-room : length out < length s / 2 → (Bad ≡ hexOf (length out) s) × (out ≡ hexInto out s)
+  unfolding hexOf hexInto
+  no-room h = (rw (lt-leb (length s / 2) (length out) h), rw (lt-leb (length s / 2) (length out) h))
+
+  module _ (h : length s / 2 ≤ length out) {n : ℕ} {after : List ℕ} (p : n ≡ length (paired s)) (q : after ≡ place out 0 (paired s)) where
+    stored : after ≡ hexInto out s
+    unfolding hexInto
+    stored = rw (le-leb (length s / 2) (length out) h) q
+
+    pub not-pairs : (n * 2 ≡ length s → ⊥) → (Bad ≡ hexOf (length out) s) × (after ≡ hexInto out s)
+    unfolding hexOf allPairs
+    not-pairs e = (rw (le-leb (length s / 2) (length out) h, ← p, ne-eqb (n * 2) (length s) e), stored)
+
+    pub all-pairs : n * 2 ≡ length s → (Is n ≡ hexOf (length out) s) × (after ≡ hexInto out s)
+    unfolding hexOf allPairs
+    all-pairs e = (rw (le-leb (length s / 2) (length out) h, ← p, eq-eqb (n * 2) (length s) e), stored)
+
+pub paired-few : (s : List ℕ) → length (paired s) * 2 ≤ length s
+unfolding paired
+paired-few [] = omega arith
+paired-few (a ∷ []) = omega arith
+paired-few (a ∷ b ∷ s) = go (ltb (nibble a) 16) (ltb (nibble b) 16) (paired-few s)
+  where
+    go : (x y : Bool) → length (paired s) * 2 ≤ length s → length (cond x (cond y ((nibble a * 16 + nibble b) ∷ paired s) []) []) * 2 ≤ suc (suc (length s))
+    go false y h = omega arith
+    go true false h = omega arith
+    go true true h = omega arith
+
+-- ---- a word of pairs, or `-`
+into-none : (out s : List ℕ) → paired s ≡ [] → out ≡ hexInto out s
+unfolding hexInto
+into-none out s e = go (leb (length s / 2) (length out))
+  where
+    go : (t : Bool) → out ≡ cond t (place out 0 (paired s)) out
+    go true = rw e (sym (place-none out 0))
+    go false = refl
+
+dash-none : (s : List ℕ) → getD s 0 0 ≡ 45 → paired s ≡ []
+unfolding paired nibble
+dash-none [] e = refl
+dash-none (a ∷ []) e = refl
+dash-none (a ∷ b ∷ s) e = rw e
+
+after-dash : List ℕ → Number
+after-dash rest = cond (eqb (length rest) 0) (Is 0) Bad
+
+module _ (room : ℕ) (s : List ℕ) (some : length s ≡ 0 → ⊥) where
+  word-dash : getD s 0 0 ≡ 45 → after-dash (take (length s - 1) (drop 1 s)) ≡ hexWord room s
+  unfolding hexWord after-dash
+  word-dash e = dash-minus Bad after-dash (hexOf room) s some e
+
+  pub word-plain : (getD s 0 0 ≡ 45 → ⊥) → hexOf room s ≡ hexWord room s
+  unfolding hexWord after-dash
+  word-plain e = dash-plain Bad after-dash (hexOf room) s some e
+
+empty-none : (s : List ℕ) → length s ≡ 0 → paired s ≡ []
+unfolding paired
+empty-none [] h = refl
+empty-none (b ∷ s) h = absurd (omega arith)
+
+rest-length : (s : List ℕ) → length (take (length s - 1) (drop 1 s)) ≡ length s - 1
+rest-length s = simp (length-take, length-drop) (omega arith)
+
+module _ (out s : List ℕ) where
+  pub hex-empty : length s ≡ 0 → (Bad ≡ hexWord (length out) s) × (out ≡ hexInto out s)
+  unfolding hexWord
+  hex-empty h = (dash-empty Bad _ (hexOf (length out)) s h, into-none out s (empty-none s h))
+
+  module _ (some : length s ≡ 0 → ⊥) (e : getD s 0 0 ≡ 45) where
+    pub hex-dash : length s ≡ 1 → (Is 0 ≡ hexWord (length out) s) × (out ≡ hexInto out s)
+    unfolding after-dash
+    hex-dash h =
+        let n : length s - 1 ≡ 0 = omega arith in
+        (rw (rest-length s, eq-eqb (length s - 1) 0 n) at (word-dash (length out) s some e), into-none out s (dash-none s e))
+
+    pub hex-dashed : (length s ≡ 1 → ⊥) → (Bad ≡ hexWord (length out) s) × (out ≡ hexInto out s)
+    unfolding after-dash
+    hex-dashed h =
+        let n : length s - 1 ≡ 0 → ⊥ = λ q. h (one (length s) some q) in
+        (rw (rest-length s, ne-eqb (length s - 1) 0 n) at (word-dash (length out) s some e), into-none out s (dash-none s e))
+      where
+        one : (n : ℕ) → (n ≡ 0 → ⊥) → n - 1 ≡ 0 → n ≡ 1
+        one zero k q = absurd (k refl)
+        one (suc n) k q = omega arith
+
+-- ---- a caller with room for every pair
+module _ (s : List ℕ) {room : ℕ} (h : length s / 2 ≤ room) where
+  pub hex-bad : hexOf room s ≡ Bad → allPairs s ≡ false
+  unfolding hexOf
+  hex-bad e = go (allPairs s) (rw (le-leb (length s / 2) room h) at e)
+    where
+      go : (t : Bool) → cond t (Is (length (paired s))) Bad ≡ Bad → t ≡ false
+      go true q = cc
+      go false q = refl
+
+  pub hex-good : {n : ℕ} → hexOf room s ≡ Is n → (allPairs s ≡ true) × (n ≡ length (paired s))
+  unfolding hexOf
+  hex-good {n} e = go (allPairs s) (rw (le-leb (length s / 2) room h) at e)
+    where
+      go : (t : Bool) → cond t (Is (length (paired s))) Bad ≡ Is n → (t ≡ true) × (n ≡ length (paired s))
+      go true q = (refl, cc)
+      go false q = (cc, cc)
+
+pub into-front : (out s : List ℕ) → length s / 2 ≤ length out → take (length (paired s)) (hexInto out s) ≡ paired s
+unfolding hexInto
+into-front out s h = rw (le-leb (length s / 2) (length out) h) (take-at (paired s) _ (length (paired s)) refl)

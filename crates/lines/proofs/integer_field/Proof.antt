@@ -1,0 +1,27 @@
+-- The field is what its word gives, at the word's end.
+-- Assumes nothing.
+use mathlib.Core.Path.{ap, ap₂, _∙_}
+use lib.ListN.{length}
+use borrow.Author.Needs.{needs}
+use Rattle.lines.specs.Numbers.{integerOf, signedOf, integerAt}
+use Rattle.lines.proofs.integer_field.Statement.{statement}
+use Rattle.lines.proofs.integer_field.Tie as tie
+
+returns : tie.Need-returns
+unfolding integerAt
+returns c =
+    let a = c .before .before .before .before .before .args in
+    let n = c .before .before .before .next-word in
+    c .signed .ensures ∙ ap₂ (λ x e. signedOf x (a .c .fine) e (length (a .line .now))) (c .before .whole .ensures ∙ ap (integerOf (a .most)) (n .ensures .0)) (n .ensures .1)
+
+pub integer-field-spec : {M : Type 1} → statement M
+integer-field-spec =
+    tie.close
+    (tie.spec
+    (λ c κs. search needs)
+    (λ c. search needs)
+    (λ c. search needs)
+    (λ c. search needs)
+    (λ c κs. search needs)
+    (λ c κs. search needs)
+    returns)

@@ -1,0 +1,64 @@
+use native.Mathlib.Omega.{arith}
+use borrow.Author.Needs.{needs}
+use Prim.Native.Nat.{_-_, _≤_}
+use mathlib.Core.Path.{_≡_, refl, sym, ap, _∙_}
+use lib.ListN.{length, take}
+use lib.Seq.{take-all}
+use Rattle.laws.specs.Placed.{place}
+use Rattle.lines.specs.Shown.{hexText}
+use Rattle.laws.proofs.Placed.{place-none}
+use Rattle.lines.proofs.Appending.{pair-size, hex-more}
+use Rattle.lines.proofs.put_hex.Statement.{statement}
+use Rattle.lines.proofs.put_hex.Tie as tie
+
+abbrev Inv-loop : tie.InvT-loop
+Inv-loop out₀ at bytes i₀ out i = (i ≤ length bytes) × (length out ≡ length out₀) × (out ≡ place out₀ at (hexText (take i bytes)))
+
+abbrev μ-loop : tie.MeasureT-loop
+μ-loop out₀ at bytes i₀ out i = length bytes - i
+
+loop-holds : tie.Need-loop-holds Inv-loop μ-loop
+unfolding hexText
+loop-holds c =
+    (omega arith, refl, sym (place-none (c .before .before .args .out .now) (c .before .before .args .at)))
+
+slice-aggregate-put : tie.Need-slice-aggregate-put Inv-loop μ-loop
+slice-aggregate-put c =
+    sym (pair-size _ (c .before .before .glyphs .ensures))
+
+put-requires : tie.Need-put-requires Inv-loop μ-loop
+put-requires c κs =
+    let h = pair-size _ (c .before .before .glyphs .ensures) in search needs
+
+loop-again : tie.Need-loop-again Inv-loop μ-loop
+loop-again c =
+    let l = c .before .before .before .before .before .before .before .before in
+    let a = l .before .before .before .args in
+    let k = c .before .before .put .ensures in
+    (omega arith, omega arith, k ∙ hex-more (a .out .now) (a .at) (l .loop .i) (a .bytes .now) (omega arith) (l .before .before .before .pre) (l .loop .inv .2) (c .before .before .before .before .before .glyphs .ensures))
+
+returns : tie.Need-returns Inv-loop μ-loop
+returns c =
+    let l = c .before in
+    let a = l .before .before .before .args in
+    let e : take (l .loop .i) (a .bytes .now) ≡ a .bytes .now = take-all (l .loop .i) (a .bytes .now) (omega arith) in
+    l .loop .inv .2 ∙ ap (λ x. place (a .out .now) (a .at) (hexText x)) e
+
+pub put-hex-spec : {M : Type 1} → statement M
+put-hex-spec =
+    tie.close
+    (tie.spec
+    Inv-loop
+    μ-loop
+    loop-holds
+    (λ c. search needs)
+    (λ c κs. search needs)
+    (λ c. search needs)
+    (λ c. search needs)
+    slice-aggregate-put
+    put-requires
+    (λ c. search needs)
+    (λ c. search needs)
+    loop-again
+    (λ c. search needs)
+    returns)

@@ -1,0 +1,6 @@
+pub mod Lines
+pub mod Row
+pub mod Rows
+pub mod Judged
+pub mod Printing
+pub mod Reach

@@ -1,0 +1,82 @@
+-- The lines of a listing, one behind another: what is stored and what is still to come are the whole.
+-- Assumes nothing.
+use mathlib.Core.Path.{_≡_, refl, sym, subst, _∙_}
+use mathlib.Core.Logic.{inl, inr}
+use mathlib.Core.Bool.{true}
+use mathlib.Core.List.{List, [], _++_, append-assoc, append-nil}
+use Prim.Native.Nat.{ℕ, suc, _+_, _-_, _*_, _≤_, _<_}
+use native.Mathlib.Omega.{arith}
+use lib.ListN.{length}
+use Rattle.laws.proofs.Placed.{place-none}
+use Rattle.answer.specs.declared.Refusal.{Refusal}
+use Rattle.leap.specs.declared.Table.{Table}
+use Rattle.leap.specs.Leap.{accepted}
+use Rattle.stamp.specs.declared.Label.{Label}
+use Rattle.clock.specs.declared.TickAnswer.the-variants.{Next, Refused as Ended}
+use Rattle.clock.specs.Clock.{tickAnswer}
+use Rattle.clock.specs.Promise.{admits, Ticks}
+use Rattle.clock.proofs.Run.{all-run}
+use Rattle.lines.specs.Shown.{Placed}
+use Rattle.lines.proofs.Appending.{is-placed, then-placed}
+use Rattle.listing.specs.Listing.{rowText, onward, rows}
+
+-- what a tick of an admitted label gives is admitted
+stays : (t : Table) (l l′ : Label) → Ticks t l → tickAnswer t l ≡ Next l′ → admits t l′ ≡ true
+stays t l l′ (inl w) e = let q : w .0 ≡ l′ = cc (w .1 .0) in subst (λ x. admits t x ≡ true) q (w .1 .1 .is-admitted)
+stays t l l′ (inr w) e = let z : _≡_ {A = ℕ} 0 1 = cc (w .1) in absurd (omega arith)
+
+module _ (t : Table) (first : Label) (count from : ℕ) (start : List ℕ) where
+  pub record Rowed (out : List ℕ) (l : Label) (at left : ℕ) : Type 0 where
+    pub done : List ℕ
+    pub stored : Placed start from done at out
+    pub whole : done ++ rows t left l ≡ rows t count first
+    pub room : at + 42 * left ≤ length start
+    pub good : accepted t ≡ true
+    pub there : admits t l ≡ true
+
+  abbrev Whole : ℕ → List ℕ → Type 0
+  Whole at out = Placed start from (rows t count first) at out
+
+  pub rowed-none : accepted t ≡ true → admits t first ≡ true → from + 42 * count ≤ length start → Rowed start first from count
+  rowed-none g h r =
+      record {
+        done = [];
+        stored = is-placed start from [] (omega arith) (omega arith) (sym (place-none start from));
+        whole = refl;
+        room = r;
+        good = g;
+        there = h;
+      }
+
+  module _ (out : List ℕ) (l : Label) (at left : ℕ) (r : Rowed out l at left) where
+    pub rowed-end : left ≡ 0 → Whole at out
+    unfolding rows
+    rowed-end e =
+        let w : r .done ≡ rows t count first = sym (append-nil (r .done)) ∙ rw e at (r .whole) in rw w at (r .stored)
+
+    module _ (h : 0 < left) {b : ℕ} {o : List ℕ} (p : Placed out at (rowText t l) b o) (few : b ≤ at + 42) where
+      more : Placed start from (r .done ++ rowText t l) b o
+      more = then-placed start from (r .done) (rowText t l) (r .stored) p
+
+      whole-is : (r .done ++ rowText t l) ++ onward (rows t (left - 1)) (tickAnswer t l) ≡ rows t count first
+      unfolding rows
+      whole-is =
+          let n : left ≡ suc (left - 1) = omega arith in
+          append-assoc (r .done) (rowText t l) _ ∙ subst (λ (k : ℕ). r .done ++ rows t k l ≡ rows t count first) n (r .whole)
+
+      -- the clock goes on
+      pub rowed-more : {next : Label} → tickAnswer t l ≡ Next next → Rowed o next b (left - 1)
+      rowed-more {next} e =
+          record {
+            done = r .done ++ rowText t l;
+            stored = more;
+            whole = rw e at whole-is;
+            room = omega (arith, r .room);
+            good = r .good;
+            there = stays t l next (all-run t (r .good) .ticks l (r .there)) e;
+          }
+
+      -- the clock ends
+      pub rowed-last : {why : Refusal} → tickAnswer t l ≡ Ended why → Whole b o
+      rowed-last {why} e =
+          let w : r .done ++ rowText t l ≡ rows t count first = sym (append-nil (r .done ++ rowText t l)) ∙ rw e at whole-is in rw w at more

@@ -1,0 +1,1029 @@
+#!/usr/bin/env python3
+"""Lines for the program `calls`, good and damaged, weighted to the edges.
+
+    generate.py SEED COUNT     COUNT random lines
+    generate.py stored         the stored input: the rows of document 01, all of Bulletin C,
+                               each kind of edge in turn, then random lines with a fixed seed
+
+The protocol has no comments, but a line that is no call answers `?`, so lines
+that begin with `#` serve as headings in the stored input.
+
+The second program works out which instants, labels and bytes lie at an edge;
+the answers to the lines are no concern of this file.
+"""
+
+import random
+import struct
+import sys
+
+import second
+from second import BULLETIN_C, DAY, DAY_SECONDS, GPS, LAST_MONTH, NOON_2000, PLACES, SECOND, TAI, TDT, UTC
+from second import Label, Table
+
+SCALES = (UTC, TAI, TDT, GPS)
+PICTURES = (0, 1, 2)
+LENGTHS = (19, 17, 20)
+STORED_SEED = 1972
+STORED_RANDOM_LINES = 2_500
+
+
+# ---------------------------------------------------------------------------
+# Dice, words and lines
+
+class Dice:
+    """Only random() is drawn from: Python promises that its sequence never changes."""
+
+    def __init__(self, seed):
+        self.random = random.Random(seed).random
+
+    def below(self, end):
+        return int(self.random() * end)
+
+    def between(self, low, high):
+        return low + self.below(high - low + 1)
+
+    def chance(self, part):
+        return self.random() < part
+
+    def pick(self, choices):
+        return choices[self.below(len(choices))]
+
+    def weighted(self, choices):
+        """Of pairs (weight, choice)."""
+        place = self.below(sum(weight for weight, _ in choices))
+        for weight, choice in choices:
+            place -= weight
+            if place < 0:
+                return choice
+
+    def bits64(self):
+        return self.below(1 << 32) << 32 | self.below(1 << 32)
+
+
+def hex_word(data):
+    return bytes(data).hex() or '-'
+
+
+def bits_word(double):
+    return struct.pack('>d', double).hex()
+
+
+def double_of_bits(bits):
+    return struct.unpack('>d', struct.pack('>Q', bits))[0]
+
+
+def beside(double, steps):
+    """The double that many places above (or below) one that is not negative."""
+    return double_of_bits(max(0, struct.unpack('>Q', struct.pack('>d', double))[0] + steps))
+
+
+def call(name, *words):
+    return ' '.join((name, *map(str, words)))
+
+
+def table_line(table, pairs=None):
+    """Sets this table; pairs may be more than are needed."""
+    used = max((i + 1 for i in range(PLACES) if table.months[i] or table.offsets[i]), default=0)
+    pairs = used if pairs is None else max(used, pairs)
+    words = [word for i in range(pairs) for word in (table.months[i], table.offsets[i])]
+    return call('table', table.count, pairs, *words)
+
+
+# ---------------------------------------------------------------------------
+# Tables
+
+BULLETIN = second.table_of_bulletin_c()
+T = second.read_block(bytes.fromhex('030C0C'))
+N = second.read_block(bytes.fromhex('020D'))
+GAPS = (1, 2, 3, 6, 12, 62, 63, 64, 65, 127, 128, 8190, 8191, 8192, 8193)  # about the groups' ends
+
+
+def table_of_steps(months, steps):
+    """A good table: these months after the first entry, each with its step."""
+    offsets = [10]
+    for step in steps:
+        offsets.append(offsets[-1] + step)
+    return Table(len(offsets), [0, *months], offsets)
+
+
+def table_of_one_step(month, step):
+    return table_of_steps([month], [step])
+
+
+def neighbours(first, count):
+    return list(range(first, first + count))
+
+
+STEPS = {
+    'up': lambda i: 1,
+    'down': lambda i: -1,
+    'down and up': lambda i: -1 if i % 2 == 0 else 1,
+    'up and down': lambda i: 1 if i % 2 == 0 else -1,
+}
+
+
+def good_tables():
+    """Each with a heading."""
+    yield 'one entry', table_of_steps([], [])
+    for month in (1, 2, 6, 337, 1537, LAST_MONTH - 1, LAST_MONTH):
+        for step in (1, -1):
+            yield f'two entries, month {month}, step {step}', table_of_one_step(month, step)
+    for name, step in STEPS.items():
+        for entries in (2, 62, 63):
+            steps = [step(i) for i in range(entries)]
+            yield f'{entries + 1} neighbouring months from the first, {name}', table_of_steps(neighbours(1, entries), steps)
+            last = neighbours(LAST_MONTH - entries + 1, entries)
+            yield f'{entries + 1} neighbouring months to the last, {name}', table_of_steps(last, steps)
+    for gap in (12, 63, 64, 8191, 8192):
+        months = list(range(gap, LAST_MONTH + 1, gap))[:PLACES - 1]
+        yield f'months {gap} apart', table_of_steps(months, [STEPS['down and up'](i) for i in range(len(months))])
+
+
+def changed(table, count=None, month=None, offset=None):
+    """The table with another count, or with one place (index, value) changed; good no more, mostly."""
+    months, offsets = list(table.months), list(table.offsets)
+    if month:
+        months[month[0]] = month[1]
+    if offset:
+        offsets[offset[0]] = offset[1]
+    return Table(table.count if count is None else count, months, offsets)
+
+
+def malformed_tables(table):
+    """Each kind of fault, at each end of a good table of two entries or more."""
+    last = table.count - 1
+    for count in (0, table.count - 1, table.count + 1, PLACES - 1, PLACES, PLACES + 1, 2**31, 2**32, 2**32 + table.count,
+                  2**63, 2**64 - 1):
+        if count != table.count:
+            yield f'count {count}', changed(table, count=count)
+    for month in (1, 2**32 - 1):
+        yield f'first month {month}', changed(table, month=(0, month))
+    for offset in (0, 9, 11, -10, 2**31 - 1, -2**31):
+        yield f'first offset {offset}', changed(table, offset=(0, offset))
+    for place in sorted({1, last}):
+        before = table.offsets[place - 1]
+        for month in (0, table.months[place - 1], table.months[place - 1] - 1, LAST_MONTH + 1, 2**31, 2**32 - 1):
+            if month >= 0:
+                yield f'month {month} at place {place}', changed(table, month=(place, month))
+        for offset in (before, before + 2, before - 2, 0, 2**31 - 1, -2**31):
+            if abs(offset - before) != 1:
+                yield f'offset {offset} at place {place}', changed(table, offset=(place, offset))
+    for place in sorted({table.count, PLACES - 1}):
+        if table.count <= place < PLACES:
+            yield f'unused month at place {place}', changed(table, month=(place, LAST_MONTH))
+            yield f'unused offset at place {place}', changed(table, offset=(place, -1))
+    if last > 1:
+        yield 'the last two offsets wrap', changed(changed(table, offset=(last - 1, 2**31 - 1)), offset=(last, -2**31))
+
+
+def random_months(dice, count):
+    kind = dice.below(6)
+    if kind == 0:
+        return neighbours(dice.between(1, LAST_MONTH - count), count)
+    if kind == 1:
+        return neighbours(LAST_MONTH - count + 1, count)
+    if kind == 2:
+        return neighbours(1, count)
+    if kind == 3:
+        months = {6 * dice.between(1, 16_055) for _ in range(2 * count)}
+        return sorted(months)[:count]
+    if kind == 4:
+        months, month = [], 0
+        while len(months) < count and month < LAST_MONTH:
+            month = min(LAST_MONTH, month + dice.pick(GAPS))
+            months.append(month)
+        return months
+    return sorted({dice.between(1, LAST_MONTH) for _ in range(count)})
+
+
+def random_table(dice):
+    entries = dice.pick((0, 1, 1, 1, 2, 2, 3, 10, 27, 62, 63, 63))
+    months = random_months(dice, entries)
+    step = dice.pick([*STEPS.values(), lambda i: dice.pick((1, -1)), lambda i: dice.pick((1, -1))])
+    return table_of_steps(months, [step(i) for i in range(len(months))])
+
+
+def random_malformed_table(dice):
+    table = random_table(dice)
+    if table.count == 1:
+        table = T
+    return dice.pick(list(malformed_tables(table)))[1]
+
+
+# ---------------------------------------------------------------------------
+# Labels and instants
+
+FIRST_LABEL = Label(1972, 1, 1, 0, 0, 0)
+LAST_LABEL = Label(9999, 12, 31, 23, 59, 59)
+YEARS = (1972, 1973, 1976, 1999, 2000, 2001, 2004, 2096, 2099, 2100, 2101, 2104, 2200, 2300, 2399, 2400, 2401, 2800,
+         4000, 8000, 9600, 9900, 9996, 9999)
+TIMES = ((0, 0, 0), (11, 59, 59), (12, 0, 0), (23, 59, 57), (23, 59, 58), (23, 59, 59), (23, 59, 60), (23, 58, 59),
+         (23, 58, 60), (22, 59, 60), (12, 30, 60), (0, 0, 60))
+MICROSECONDS = (0, 1, 9, 10, 250_000, 499_999, 500_000, 814_000, 999_999)
+WRONG = {  # for each field, values that are refused or nearly so
+    'year': (0, 1, 1970, 1971, 1972, 9999, 10_000, 10_001, 12_000, 2**31, 2**32 - 1),
+    'month': (0, 1, 12, 13, 14, 2**31, 2**32 - 1),
+    'day': (0, 1, 28, 29, 30, 31, 32, 2**31, 2**32 - 1),
+    'hour': (0, 23, 24, 25, 2**31, 2**32 - 1),
+    'minute': (0, 59, 60, 61, 2**31, 2**32 - 1),
+    'second': (0, 58, 59, 60, 61, 62, 2**31, 2**32 - 1),
+}
+SCALE_NUMBERS = (0, 1, 2, 3, 4, 5, 255, 256, 2**31, 2**32 - 1)
+INSTANTS_AT_64_BITS = tuple(end + sign * inward for end, sign in ((-2**63, 1), (2**63 - 1, -1))
+                            for inward in (0, 1, 999_999, 18_999_999, 19_000_000, 19_000_001, 32_183_999, 32_184_000,
+                                           32_184_001, 73_000_000, NOON_2000 * SECOND))
+
+
+def edges_of(table):
+    """The table whose steps are worth asking about."""
+    return table if table.is_good else BULLETIN
+
+
+def day_before_month(month):
+    return second.date_of_day(second.FIRST_DAY[month] - 1)
+
+
+def labels_of_night(month, step):
+    """The last seconds before a step, those of its opposite too, and the first after it."""
+    seconds = (57, 58, 59, 60) if step < 0 else (58, 59, 60)
+    return ([Label(*day_before_month(month), 23, 59, last) for last in seconds]
+            + [Label(*second.date_of_day(second.FIRST_DAY[month]), 0, 0, 0)])
+
+
+def is_label(table, scale, label):
+    try:
+        second.judge_fields(table, scale, label, 0)
+    except second.Refused:
+        return False
+    return True
+
+
+def ends_of_scale(table, scale):
+    return (second.instant_of(table, scale, FIRST_LABEL, 0), second.instant_of(table, scale, LAST_LABEL, 999_999))
+
+
+def random_date(dice):
+    return second.date_of_day(dice.below(second.END_OF_DAYS))
+
+
+def random_time(dice):
+    return dice.pick(TIMES) if dice.chance(0.5) else (dice.below(24), dice.below(60), dice.below(60))
+
+
+def date_at_edge(dice):
+    year, month = dice.pick(YEARS), dice.pick((1, 2, 2, 2, 3, 6, 7, 11, 12, dice.between(1, 12)))
+    return year, month, dice.pick((1, 27, 28, 29, 30, 31, second.days_in_month(year, month)))
+
+
+def label_at_step(dice, table):
+    if not table.steps:
+        return Label(*dice.pick((day_before_month(6), day_before_month(12))), 23, 59, dice.pick((59, 60)))
+    month = dice.pick(list(table.steps))
+    if dice.chance(0.1):  # a step's time one day off
+        return dice.pick(labels_of_night(month, -1))._replace(day=dice.pick((1, 2, 27, 28, 29)))
+    return dice.pick(labels_of_night(month, -1))
+
+
+def random_label(dice, table):
+    kind = dice.weighted(((30, 'step'), (20, 'edge'), (15, 'mid-year'), (10, 'ends'), (25, 'any')))
+    if kind == 'step':
+        return label_at_step(dice, edges_of(table))
+    if kind == 'edge':
+        return Label(*date_at_edge(dice), *random_time(dice))
+    if kind == 'mid-year':
+        date = dice.pick(((6, 30), (12, 31)))
+        return Label(dice.between(1972, 9999), *date, 23, 59, dice.pick((58, 59, 60)))
+    if kind == 'ends':
+        return dice.pick((FIRST_LABEL, FIRST_LABEL._replace(second=dice.below(61)), LAST_LABEL,
+                          LAST_LABEL._replace(second=dice.between(50, 61)), LAST_LABEL._replace(month=11, day=30),
+                          LAST_LABEL._replace(month=11, day=30, second=60), FIRST_LABEL._replace(year=1971),
+                          FIRST_LABEL._replace(year=10_000)))
+    return Label(*random_date(dice), *random_time(dice))
+
+
+def spoilt_label(dice, label):
+    for _ in range(dice.pick((1, 1, 1, 2, 3))):
+        field = dice.pick(list(WRONG))
+        label = label._replace(**{field: dice.pick(WRONG[field])})
+    return label
+
+
+def any_label(dice, table):
+    label = random_label(dice, table)
+    return spoilt_label(dice, label) if dice.chance(0.2) else label
+
+
+def random_microsecond(dice):
+    return dice.pick(MICROSECONDS) if dice.chance(0.6) else dice.below(SECOND)
+
+
+def random_scale(dice):
+    return dice.pick(SCALE_NUMBERS) if dice.chance(0.06) else dice.weighted(((4, UTC), (2, TAI), (2, TDT), (2, GPS)))
+
+
+def random_instant(dice, table):
+    table = edges_of(table)
+    kind = dice.weighted(((35, 'step'), (20, 'ends'), (15, 'label'), (15, 'any'), (5, 'noon'), (7, '64'), (3, 'bits')))
+    near = dice.between(-3, 3) * SECOND + dice.pick((-1, 0, 0, 1, random_microsecond(dice)))
+    if kind == 'step':
+        return dice.pick(table.held_from) * SECOND + near
+    if kind == 'ends':
+        return dice.pick(ends_of_scale(table, dice.pick(SCALES))) + dice.pick((-2, -1, 0, 1, 2, near))
+    if kind == 'label':
+        midnight = second.day_number(*random_date(dice)) * DAY_SECONDS - NOON_2000
+        return (midnight + dice.between(-75, 75)) * SECOND + random_microsecond(dice)
+    if kind == 'any':
+        first, last = ends_of_scale(table, TAI)
+        return dice.between(first // SECOND, last // SECOND) * SECOND + random_microsecond(dice)
+    if kind == 'noon':
+        return near
+    return dice.pick(INSTANTS_AT_64_BITS) if kind == '64' else dice.bits64() - 2**63
+
+
+# ---------------------------------------------------------------------------
+# Blocks
+
+def numbers(*values):
+    return b''.join(map(second.groups_of_number, values))
+
+
+def number_in_groups(value, groups):
+    """The number in this many groups, the shortest form or not."""
+    parts = [value >> 7 * i & 0x7F for i in range(groups)]
+    return bytes(part | 0x80 for part in parts[:-1]) + bytes(parts[-1:])
+
+
+def blocks_of_limits():
+    """Numbers at their limits: month 96,335 and past it, the counts, the gaps of 0, the three groups."""
+    for value in (0, 1, 2, 3, 63, 64, 65, 127):
+        yield bytes([value])
+        yield bytes([value]) + b'\x02' * max(0, value - 1)
+    for value in (128, 129, 192, 16_383, 16_384, 2**21 - 1):
+        yield numbers(value)
+    for value in (0, 1, 2, 3, 126, 127, 128, 129, 16_382, 16_383, 16_384, 16_385, 2**21 - 1):
+        yield numbers(2, value)
+    for bit in (0, 1):
+        for month in (LAST_MONTH - 1, LAST_MONTH, LAST_MONTH + 1):
+            yield numbers(2, 2 * month + bit)
+            yield numbers(3, 2 * (month - 1) + bit, 2 + bit)
+            yield numbers(3, 2 + bit, 2 * (month - 1) + bit)
+    for value in (0, 1, 2, 12, 64, 127):
+        for groups in (1, 2, 3, 4):
+            yield number_in_groups(value, groups)
+            yield b'\x02' + number_in_groups(value, groups)
+    for tail in (b'', b'\x00', b'\x80', b'\x80\x80\x80', b'\xff\xff\xff\xff'):
+        for begin in (b'', b'\x01', b'\x02', b'\x02\x0c', b'\x02\x80', b'\x02\x80\x80', b'\x02\xff\xff\x7f'):
+            yield begin + tail
+
+
+def damaged_blocks(block):
+    """The block wrong at each place."""
+    for place in range(len(block)):
+        for byte in (0x00, 0x01, 0x7F, 0x80, 0x81, 0xFF, block[place] | 0x80, block[place] ^ 0x01):
+            yield block[:place] + bytes([byte]) + block[place + 1:]
+        yield block[:place]
+        yield block[:place] + block[place + 1:]
+        yield block[:place] + b'\x80' + block[place:]
+        yield block[:place] + b'\x80\x80\x80'
+    for tail in (b'\x00', b'\x80', b'\x02', b'\x80\x80\x80'):
+        yield block + tail
+
+
+def random_block(dice, table):
+    kind = dice.below(8)
+    if kind == 0:
+        return bytes(dice.below(256) for _ in range(dice.below(12)))
+    if kind == 1:
+        return dice.pick(list(blocks_of_limits()))
+    if kind == 2:
+        count = dice.between(1, PLACES)
+        entries = [dice.pick((2, 3, 12, 13, 127, 128, 3_050, 3_059, 16_383, 16_384)) for _ in range(count - 1)]
+        return numbers(count, *entries)
+    block = second.block_of_table(edges_of(table) if dice.chance(0.3) else random_table(dice))
+    return block if kind < 5 else dice.pick(list(damaged_blocks(block)))
+
+
+# ---------------------------------------------------------------------------
+# Texts
+
+DAYS_OF_YEAR = (0, 1, 31, 32, 59, 60, 61, 181, 182, 183, 364, 365, 366, 367, 400, 999)
+DECIMALS = ('', '.0', '.1', '.9', '.25', '.814', '.0000', '.99999', '.000001', '.999999', '.123456', '.500000')
+WRONG_DECIMALS = ('.', '..', '.1234567', '.0000000', '.1.', '.-1', '. 1', '.1 ', ',5', '.x', '.1Z', '.12345a')
+WRONG_NAMES = ('Jan', 'jan', 'JUNE', 'JU', 'APT', 'MAI', '   ', '001', 'JAM', 'DEC.')
+AROUND = ('\n', '\r\n', '\r', ' ', 'Z', '\x00', '+', '\t', '\ufeff')
+
+
+def text_of(picture, label, decimals, day_of_year=None, name=None):
+    """The picture of any fields, wrong ones too, cut to their widths."""
+    year, month, day = label.year % 10_000, label.month % 100, label.day % 100
+    time = f'{label.hour % 100:02}:{label.minute % 100:02}:{label.second % 100:02}{decimals}'
+    if picture == 0:
+        return f'{year:04}-{month:02}-{day:02}T{time}'
+    if picture == 1:
+        if day_of_year is None:
+            day_of_year = second.day_of_year(year, month, day)
+        return f'{year:04}-{day_of_year:03}T{time}'
+    if name is None:
+        name = second.MONTH_NAMES[month - 1].decode()
+    return f'{year:04} {name} {day:02} {time}'
+
+
+def wrong_characters(character):
+    """What is easily taken for it, and what stands beside it in the code."""
+    beside_it = {chr((ord(character) - 1) % 256), chr((ord(character) + 1) % 256)}
+    return sorted((beside_it | {'0', '9', ' ', '/', ':', 'T', 't', '\xb0'}) - {character})
+
+
+def damaged_texts(text):
+    """The text wrong at each position."""
+    for place, character in enumerate(text):
+        for other in wrong_characters(character):
+            yield text[:place] + other + text[place + 1:]
+        yield text[:place]
+        yield text[:place] + text[place + 1:]
+        yield text[:place] + '0' + text[place:]
+        yield text[:place] + ' ' + text[place:]
+    for other in AROUND:
+        yield text + other
+        yield other + text
+
+
+def text_word(text):
+    return hex_word(text.encode('utf-8') if '\ufeff' in text else text.encode('latin-1'))
+
+
+def random_text(dice, table):
+    label, picture = any_label(dice, table), dice.pick(PICTURES)
+    decimals = dice.pick(WRONG_DECIMALS) if dice.chance(0.05) else dice.pick(DECIMALS)
+    name = None if 1 <= label.month <= 12 and not dice.chance(0.03) else dice.pick(WRONG_NAMES)
+    day_of_year = None if is_date(label) and not dice.chance(0.1) else dice.pick(DAYS_OF_YEAR)
+    text = text_of(picture, label, decimals, day_of_year, name)
+    if dice.chance(0.03):
+        return dice.pick(('', '.', 'T', '1972', text.lower(), text.replace('T', ' '), text + text, ' ' * len(text)))
+    return damaged_text(dice, text) if dice.chance(0.15) else text
+
+
+def is_date(label):
+    return (1972 <= label.year <= 9999 and 1 <= label.month <= 12
+            and 1 <= label.day <= second.days_in_month(label.year, label.month))
+
+
+def damaged_text(dice, text):
+    return dice.pick(list(damaged_texts(text))) if dice.chance(0.3) else damaged_once(dice, text)
+
+
+def damaged_once(dice, text):
+    place = dice.below(len(text))
+    return text[:place] + chr(dice.below(256)) + text[place + 1:]
+
+
+def random_room(dice, needed):
+    return dice.pick((needed, needed, needed, needed - 1, needed + 1, 0, 1, 256, dice.below(257)))
+
+
+# ---------------------------------------------------------------------------
+# Doubles
+
+FIRST_MIDNIGHT, LAST_MIDNIGHT = second.MIDNIGHT_OF_DAY_0, second.MIDNIGHT_OF_LAST_DAY
+NOT_FINITE = tuple(map(double_of_bits, (0x7FF0000000000000, 0xFFF0000000000000, 0x7FF8000000000000, 0xFFF8000000000000,
+                                        0x7FF0000000000001, 0xFFFFFFFFFFFFFFFF)))
+MIDNIGHTS = (
+    FIRST_MIDNIGHT, LAST_MIDNIGHT, 2451544.5, FIRST_MIDNIGHT - 1, LAST_MIDNIGHT + 1, FIRST_MIDNIGHT + 1, LAST_MIDNIGHT - 1,
+    FIRST_MIDNIGHT - 0.5, FIRST_MIDNIGHT + 0.5, LAST_MIDNIGHT + 0.5, 2451545.0, 2451544.25, 2451544.75, 2400000.5, 0.5, -0.5, 1.5,
+    -1.5, 0.0, -0.0, 0.25, -2451544.5, beside(2451544.5, 1), beside(2451544.5, -1), beside(LAST_MIDNIGHT, 1),
+    4294967296.5, 4294967295.5, 2147483648.5, 2.0**51 + 0.5, 2.0**51 - 0.5, -(2.0**51) - 0.5, 2.0**52, 2.0**52 - 0.5, 2.0**52 + 1,
+    2.0**53, 2.0**63, -(2.0**63), 2.0**64, 1e300, -1e300, sys.float_info.max, double_of_bits(1), double_of_bits(1 << 63 | 1),
+    sys.float_info.min, *NOT_FINITE,
+)
+FRACTIONS_OF_KINDS = (
+    0.0, -0.0, 0.5, 0.25, 1.0, beside(1.0, -1), beside(1.0, -2), beside(1.0, 1), -1.0, 2.0, 0.9999999, -0.5, -1e-300,
+    double_of_bits(1), double_of_bits(1 << 63 | 1), double_of_bits(0x000FFFFFFFFFFFFF), sys.float_info.min, 1e-300, 1e300,
+    float.fromhex('0x1.b26c2e8aee24fp-3'), *NOT_FINITE,
+)
+
+
+def tie(odd):
+    """The fractions of a day that lie exactly between two microseconds are odd parts of 2^14."""
+    return odd / 2**14
+
+
+def fractions_beside_half(microsecond):
+    """The doubles about the half after this microsecond."""
+    middle = (2 * microsecond + 1) / (2 * DAY)
+    return [beside(middle, steps) for steps in (-2, -1, 0, 1, 2)]
+
+
+def fractions_of_microsecond(microsecond):
+    exact = microsecond / DAY
+    return [beside(exact, steps) for steps in (-1, 0, 1)]
+
+
+MICROSECONDS_OF_DAY = (0, 1, 2, DAY // 2 - 1, DAY // 2, 86_398_000_000, 86_398_999_998, 86_398_999_999, 86_399_000_000,
+                       86_399_000_001, DAY - 2, DAY - 1)
+
+
+def pair_at_step(dice, table):
+    """On the day before a step (where the table has one), about its last two seconds."""
+    month = dice.pick(list(table.steps) or [6])
+    boundary = dice.pick((86_398, 86_399, 86_399, 86_400)) * SECOND
+    if dice.chance(0.5):
+        fraction = dice.pick(fractions_beside_half(boundary - 1) + fractions_of_microsecond(boundary))
+    else:
+        fraction = fractions_of_microsecond(boundary + dice.between(-SECOND, SECOND))[1]
+    return FIRST_MIDNIGHT + second.FIRST_DAY[month] - 1, min(fraction, beside(1.0, -1))
+
+
+def random_pair(dice, table):
+    if table.is_good and dice.chance(0.3):
+        return pair_at_step(dice, table)
+    return random_midnight(dice, table), random_fraction(dice)
+
+
+def random_midnight(dice, table):
+    kind = dice.weighted(((35, 'step'), (25, 'any'), (15, 'ends'), (15, 'list'), (6, 'half'), (4, 'bits')))
+    table = edges_of(table)
+    if kind == 'step' and table.steps:
+        return FIRST_MIDNIGHT + second.FIRST_DAY[dice.pick(list(table.steps))] - dice.pick((1, 1, 1, 0, 2))
+    if kind == 'ends':
+        return dice.pick((FIRST_MIDNIGHT, LAST_MIDNIGHT)) + dice.pick((-1, 0, 0, 0, 1, 0.5))
+    if kind == 'list':
+        return dice.pick(MIDNIGHTS)
+    if kind == 'half':
+        return dice.pick((1, -1)) * (float(dice.below(2**dice.between(1, 52))) + dice.pick((0, 0.5, 0.5, 0.25)))
+    if kind == 'bits':
+        return double_of_bits(dice.bits64())
+    return FIRST_MIDNIGHT + dice.below(second.END_OF_DAYS)
+
+
+def random_fraction(dice):
+    kind = dice.weighted(((20, 'microsecond'), (20, 'half'), (15, 'tie'), (15, 'edge'), (15, 'list'), (12, 'any'), (3, 'bits')))
+    microsecond = dice.pick(MICROSECONDS_OF_DAY) if dice.chance(0.5) else dice.below(DAY)
+    if kind == 'microsecond':
+        return dice.pick(fractions_of_microsecond(microsecond))
+    if kind == 'half':
+        return dice.pick(fractions_beside_half(microsecond))
+    if kind == 'tie':
+        return beside(tie(2 * dice.below(2**13) + 1), dice.pick((-1, 0, 0, 1)))
+    if kind == 'edge':
+        return beside(dice.pick((86_399 / DAY_SECONDS, 86_398 / DAY_SECONDS, 1.0, 0.5)), dice.between(-40_000, 40_000))
+    if kind == 'list':
+        return dice.pick(FRACTIONS_OF_KINDS)
+    return dice.random() if kind == 'any' else double_of_bits(dice.bits64())
+
+
+# ---------------------------------------------------------------------------
+# Lines of the protocol
+
+LONG_LINE_SIZES = (2_047, 2_048, 2_049, 2_050, 4_096, 4_097, 5_000)
+
+
+def long_lines():
+    """A good call made long by leading zeros, and a long text; lines of over 2,048 bytes are refused."""
+    for size in LONG_LINE_SIZES:
+        yield 'start' + ' ' * (size - 5)
+        yield 'tick 1972 1 1 0 0 ' + '7'.rjust(size - 18, '0')
+        yield 'stamp_of -5 ' + '1'.rjust(size - 12, '0')
+        yield 'stamp_of -' + '5'.rjust(size - 12, '0') + ' 1'
+        yield 'read_block ' + '0' * (size - 11)
+        yield 'read_block 01' + '0' * (size - 13)
+        yield ('read_text 0 ' if size % 2 == 0 else 'read_text 00 ').ljust(size, '3')
+        yield 'x' * size
+
+
+GOOD_LINES = (
+    'table 2 2 0 10 6 11', 'read_block 030C0c', 'read_block -', 'write_block 29', 'instant_of 0 1972 6 30 23 59 60 250000',
+    'stamp_of -867931190000000 0', 'read_text 0 313937322d30372d30315430303a30303a3030', 'read_text 1 -', 'write_text 0 0 1 3 23',
+    'write_julian 0 1', 'read_julian 1 4142b42c40000000 3fe0000000000000', 'start', 'tick 1972 6 30 23 59 59',
+)
+
+
+OTHER_WORDS = ('', '-', '--1', '+1', '-1', '-0', '00', '01', '0x1', '1.0', '1e3', 'a', 'A5', 'abc', '1_0', '-00', '-01',
+               '64', '65', '256', '257',
+               str(2**31 - 1), str(2**31), str(-2**31), str(-2**31 - 1), str(2**32 - 1), str(2**32), str(2**63 - 1), str(2**63),
+               str(-2**63), str(-2**63 - 1), str(2**64 - 1), str(2**64), '9' * 40, '0' * 40 + '1',
+               '3FE0000000000000', '3fe000000000000', '3fe00000000000000', '3fe000000000000g', '-fe0000000000000')
+
+
+def damaged_lines(line):
+    """A good line with wrong blanks, words too many or too few, and its first, second and last word replaced."""
+    words = line.split(' ')
+    yield from (' ' + line, line + ' ', line.upper(), line.capitalize(), line + ' 0', line + ' -', line + ' x', '\t' + line)
+    yield from (line + '\r', line + '\t', line.replace(' ', '\t'), line.replace(' ', '  ', 1), line + '\x00')
+    for place in range(len(words)):
+        yield ' '.join(words[:place])
+        yield ' '.join(words[:place] + words[place + 1:])
+    for place in sorted({1, 2, len(words) - 1} & set(range(1, len(words)))):
+        for other in OTHER_WORDS:
+            yield ' '.join(words[:place] + [other] + words[place + 1:])
+
+
+OTHER_LINES = ('', ' ', '-', '?', '#', 'ok', '\r', 'starts', 'star', 'START', 'table', 'table 1', 'table 0 0', 'table 1 0', 'table 1 1 0',
+               'table 1 1 0 10', 'table 1 1 0 10 0', 'table 18446744073709551615 0', 'table 18446744073709551616 0', 'table -1 0',
+               'table 1 65' + ' 0 0' * 65, 'table 1 64 0 10' + ' 0 0' * 63, 'table 1 -1', 'table 2 2 0 10 4294967295 2147483647',
+               'table 2 2 0 10 4294967296 11', 'table 2 2 0 10 6 2147483648', 'table 2 2 0 10 6 -2147483648',
+               'table 2 2 0 10 6 -2147483649',
+               'table 2 2 0 10 -6 11', 'table 02 02 00 010 06 0011', 'table 2 2 -0 10 6 11', 'tick 1972 1 1 0 0 -0',
+               'read_block 0', 'read_block 0g', 'read_block 01 ', 'read_block 0 1', 'read_block --', 'read_block -01', 'write_block 256',
+               'write_block 257', 'write_block -1', 'write_block 18446744073709551616', 'write_text 0 0 0 0 257', 'write_text 0 0 0 0 0',
+               'café', 'read_text 0 é', '\xff\xfe', 'start\x0b', 'start #')
+
+
+# ---------------------------------------------------------------------------
+# Random lines
+
+class Lines:
+    """Random lines; it remembers the table that they have set."""
+
+    WEIGHTS = ((4, 'table'), (10, 'read_block'), (3, 'write_block'), (12, 'instant_of'), (14, 'stamp_of'), (18, 'read_text'),
+               (14, 'write_text'), (8, 'write_julian'), (14, 'read_julian'), (1, 'start'), (12, 'tick'), (5, 'damaged'))
+
+    def __init__(self, seed):
+        self.dice = Dice(seed)
+        self.table = BULLETIN
+
+    def next_line(self):
+        if not self.table.is_good and self.dice.chance(0.2):
+            return self.line_table()
+        return getattr(self, 'line_' + self.dice.weighted(self.WEIGHTS))()
+
+    def line_table(self):
+        kind = self.dice.weighted(((2, 'bulletin'), (1, 'one step'), (5, 'random'), (2, 'malformed')))
+        if kind == 'bulletin':
+            self.table = BULLETIN
+        elif kind == 'one step':
+            self.table = self.dice.pick((T, N))
+        else:
+            self.table = random_table(self.dice) if kind == 'random' else random_malformed_table(self.dice)
+        return table_line(self.table, self.dice.pick((None, None, self.table.count % 65, PLACES)))
+
+    def line_read_block(self):
+        word = hex_word(random_block(self.dice, self.table))
+        return call('read_block', word.upper() if self.dice.chance(0.2) else word)
+
+    def line_write_block(self):
+        return call('write_block', random_room(self.dice, len(second.block_of_table(edges_of(self.table)))))
+
+    def line_instant_of(self):
+        microsecond = self.dice.pick((SECOND, SECOND + 1, 2**32 - 1)) if self.dice.chance(0.04) else random_microsecond(self.dice)
+        return call('instant_of', random_scale(self.dice), *any_label(self.dice, self.table), microsecond)
+
+    def line_stamp_of(self):
+        return call('stamp_of', random_instant(self.dice, self.table), random_scale(self.dice))
+
+    def line_read_text(self):
+        return call('read_text', random_scale(self.dice), text_word(random_text(self.dice, self.table)))
+
+    def line_write_text(self):
+        dice = self.dice
+        picture = dice.pick((3, 4, 2**31, 2**32 - 1)) if dice.chance(0.03) else dice.pick(PICTURES)
+        digits = dice.pick((7, 8, 2**31, 2**32 - 1)) if dice.chance(0.03) else dice.below(7)
+        needed = LENGTHS[picture % 3] + (digits % 7 + 1 if digits else 0)
+        return call('write_text', random_instant(dice, self.table), picture, random_scale(dice), digits, random_room(dice, needed))
+
+    def line_write_julian(self):
+        return call('write_julian', random_instant(self.dice, self.table), random_scale(self.dice))
+
+    def line_read_julian(self):
+        return call('read_julian', random_scale(self.dice), *map(bits_word, random_pair(self.dice, self.table)))
+
+    def line_start(self):
+        return 'start'
+
+    def line_tick(self):
+        return call('tick', *any_label(self.dice, self.table))
+
+    def line_damaged(self):
+        kind = self.dice.below(20)
+        if kind == 0:
+            return self.dice.pick(OTHER_LINES)
+        if kind == 1 and self.dice.chance(0.3):
+            return self.dice.pick(list(long_lines()))
+        if kind < 10:
+            return self.damaged_at_place(self.dice.pick(GOOD_LINES))
+        return self.damaged_word(self.dice.pick(GOOD_LINES))
+
+    def damaged_at_place(self, line):
+        place = self.dice.below(len(line))
+        character = self.dice.pick((' ', '0', '-', '9', 'g', '\r', '\x00', '\xff', chr(self.dice.below(256)))).replace('\n', '')
+        return line[:place] + character + line[place + self.dice.below(2):]
+
+    def damaged_word(self, line):
+        if self.dice.chance(0.5):
+            return self.dice.pick(list(damaged_lines(line)))
+        words = line.split(' ')
+        words[self.dice.below(len(words))] = self.dice.pick(OTHER_WORDS)
+        return ' '.join(words)
+
+
+def random_lines(seed, count):
+    lines = Lines(seed)
+    for _ in range(count):
+        yield lines.next_line()
+
+
+# ---------------------------------------------------------------------------
+# The stored input
+
+def text_line(scale, text):
+    return call('read_text', scale, text_word(text))
+
+
+def worked_on_the_night_desk():
+    """Document 01's rows, in its order, each with its row as a heading."""
+    rows = (
+        ('P: B, UTC 1972-01-01T00:00:00 gives -883,655,990', BULLETIN, text_line(UTC, '1972-01-01T00:00:00')),
+        ('P: T, UTC 1972-06-30T23:59:60 gives -867,931,190', T, text_line(UTC, '1972-06-30T23:59:60')),
+        ('P: T, UTC 1972-07-01T00:00:00 gives -867,931,189', T, text_line(UTC, '1972-07-01T00:00:00')),
+        ('P: N, UTC 1972-06-30T23:59:58 gives -867,931,192', N, text_line(UTC, '1972-06-30T23:59:58')),
+        ('P: N, UTC 1972-07-01T00:00:00 gives -867,931,191', N, text_line(UTC, '1972-07-01T00:00:00')),
+        ('P: N, UTC 1972-06-30T23:59:59 gives refusal 6', N, text_line(UTC, '1972-06-30T23:59:59')),
+        ('P: B, UTC 2016-366T23:59:60 gives 536,500,836', BULLETIN, text_line(UTC, '2016-366T23:59:60')),
+        ('P: B, UTC 2017-01-01T00:00:00 gives 536,500,837', BULLETIN, text_line(UTC, '2017-01-01T00:00:00')),
+        ('P: B, UTC 1986 APR 12 16:31:09.814 gives -433,020,507.186', BULLETIN, text_line(UTC, '1986 APR 12 16:31:09.814')),
+        ('P: TAI 2016-12-31T23:59:60 gives refusal 5', BULLETIN, text_line(TAI, '2016-12-31T23:59:60')),
+        ('P: block 81 00 gives 10 at 0', BULLETIN, 'read_block 8100'),
+        ('P: block 01 00 gives 12 at 1', BULLETIN, 'read_block 0100'),
+        ('P: block 02 01 gives 11 at 1', BULLETIN, 'read_block 0201'),
+        ('P: empty block gives 9 at 0', BULLETIN, 'read_block -'),
+        ('P: block 41 gives 11 at 0', BULLETIN, 'read_block 41'),
+        ('instant -1, TAI, no digits gives 2000-01-01T11:59:59', BULLETIN, 'write_text -1 0 1 0 19'),
+        ('TDT 1972-01-01T00:00:00 is accepted', BULLETIN, text_line(TDT, '1972-01-01T00:00:00')),
+        ('and written on TAI: refusal 7', BULLETIN, call('write_text', ends_of_scale(BULLETIN, TDT)[0], 0, TAI, 0, 19)),
+        ('instant 0, TAI Julian date is 2451544.5 and 0.5', BULLETIN, 'write_julian 0 1'),
+        ('block 03 0C 0C is T', BULLETIN, 'read_block 030C0C'),
+        ('block 02 0D is N', BULLETIN, 'read_block 020D'),
+        ('the clock starts', BULLETIN, 'start'),
+    )
+    yield from ('# B, the table that the program starts with, takes 29 bytes', 'write_block 29')
+    table = BULLETIN
+    for heading, wanted, line in rows:
+        yield '# ' + heading
+        if wanted is not table:
+            table = wanted
+            yield table_line(table)
+        yield line
+    yield from (table_line(T), 'tick 1972 6 30 23 59 59', 'tick 1972 6 30 23 59 60', table_line(BULLETIN))
+
+
+def lines_of_instant(table, instant, scales=SCALES, pictures=PICTURES, digits=0):
+    """All that is asked about an instant, on these scales and in these pictures, out and back."""
+    for scale in scales:
+        yield call('stamp_of', instant, scale)
+        yield call('write_julian', instant, scale)
+        for picture in pictures:
+            yield call('write_text', instant, picture, scale, digits, LENGTHS[picture] + digits + (digits > 0))
+        try:
+            stamp = second.stamp_of(table, instant, scale)
+        except second.Refused:
+            continue
+        yield call('instant_of', *stamp[:1], *stamp.label, stamp.microsecond)
+        for picture in pictures:
+            text = second.text_of_fields(picture, stamp.label, stamp.microsecond, digits)
+            yield text_line(scale, text.decode())
+        yield call('read_julian', scale, *map(bits_word, second.write_julian(table, instant, scale)))
+
+
+def bulletin_c():
+    """Each entry's added second, the second before and the second after, on all scales and in all pictures."""
+    yield table_line(BULLETIN)
+    yield from ('# 1972-01-01, the first entry', 'start', 'tick 1972 1 1 0 0 0')
+    yield from lines_of_instant(BULLETIN, ends_of_scale(BULLETIN, UTC)[0])
+    for year, month, offset in BULLETIN_C[1:]:
+        number = second.month_number(year, month)
+        yield f'# {year}-{month:02}-01, TAI-UTC {offset}'
+        for label in labels_of_night(number, 1)[1:]:
+            yield call('tick', *label)
+            yield from lines_of_instant(BULLETIN, second.instant_of(BULLETIN, UTC, label, 0))
+    yield '# the dates of the sources that are one day early'
+    for year in (1972, 1983, 1985):
+        yield call('instant_of', UTC, year, 6, 29, 23, 59, 60, 0)
+        yield call('instant_of', UTC, year, 6, 30, 0, 0, 0, 0)
+
+
+def ends_of_scales():
+    for heading, table, scales in (
+            ('B', BULLETIN, SCALES),
+            ('63 seconds added', table_of_steps(neighbours(1, 63), [1] * 63), (UTC,)),
+            ('63 seconds taken out', table_of_steps(neighbours(1, 63), [-1] * 63), (UTC,)),
+            ('a second added on 30 November 9999', table_of_one_step(LAST_MONTH, 1), (UTC,))):
+        yield f'# ends of each scale: {heading}'
+        yield table_line(table)
+        for instant in sorted({end + near for scale in scales for end in ends_of_scale(table, scale) for near in (-1, 0, 1)}):
+            yield from lines_of_instant(table, instant, scales, pictures=(0,), digits=6)
+    yield '# ends of 64 bits'
+    for instant in INSTANTS_AT_64_BITS:
+        for scale in SCALES:
+            yield call('stamp_of', instant, scale)
+            yield call('write_text', instant, 0, scale, 6, 0)
+            yield call('write_julian', instant, scale)
+
+
+def calendar():
+    yield table_line(BULLETIN)
+    for year in YEARS:
+        for month in (2, 12):
+            last = second.days_in_month(year, month)
+            yield call('tick', year, month, last, 23, 59, 59)
+            yield call('tick', year, month, last + 1, 0, 0, 0)
+            for day in (last, last + 1):
+                yield text_line(TAI, f'{year:04}-{month:02}-{day:02}T12:00:00')
+        for day in (0, 1, 59, 60, 365, 366, 367):
+            yield text_line(GPS, f'{year:04}-{day:03}T00:00:00.5')
+        noon = second.instant_of(BULLETIN, TDT, Label(year, 3, 1, 12, 0, 0), 1)
+        for before in (0, 1, 2):
+            yield call('write_text', noon - before * DAY, 1, TDT, 6, 24)
+    for month in range(1, 13):
+        yield call('tick', 2023, month, second.days_in_month(2023, month), 23, 59, 59)
+        yield call('tick', 2023, month, second.days_in_month(2023, month) + 1, 23, 59, 59)
+        yield text_line(TAI, f'2024 {second.MONTH_NAMES[month - 1].decode()} 01 00:00:00')
+    yield '# each field in turn, and the order of the refusals'
+    for field, values in WRONG.items():
+        for value in values:
+            for label in (Label(2016, 12, 31, 23, 59, 59), Label(1987, 4, 12, 16, 31, 12)):
+                yield call('instant_of', UTC, *label._replace(**{field: value}), 0)
+                yield call('instant_of', GPS, *label._replace(**{field: value}), 999_999)
+                yield call('tick', *label._replace(**{field: value}))
+    for number in SCALE_NUMBERS:
+        for label in (FIRST_LABEL, Label(0, 0, 0, 99, 99, 99)):
+            yield call('instant_of', number, *label, SECOND)
+        yield call('stamp_of', 2**63 - 1, number)
+        yield call('read_text', number, '-')
+        yield call('write_text', 2**63 - 1, 0, number, 0, 0)
+        yield call('write_julian', 2**63 - 1, number)
+        yield call('read_julian', number, bits_word(NOT_FINITE[2]), bits_word(1.0))
+    for text in ('1971-13-32T24:60:61', '1972-13-32T24:60:61', '1972-366T24:60:61', '1973-366T24:60:61', '1971-000T24:00:00',
+                 '1972-06-30T24:59:60',
+                 '1972-06-30T23:59:61', '1972-06-30T12:30:60', '1972-06-29T23:59:60', '9999-12-31T23:59:60', '9999-12-31T23:59:59.999999',
+                 '1971-12-31T23:59:60', '1971-12-31T23:59:59', '0000-00-00T00:00:00', '9999-366T00:00:00', '1972-06-30T23:59:60.999999'):
+        for scale in SCALES:
+            yield text_line(scale, text)
+    for label in ((9999, 12, 31, 23, 59, 58), (9999, 12, 31, 23, 59, 59), (9999, 12, 31, 23, 59, 60),
+                  (10000, 1, 1, 0, 0, 0), (1971, 12, 31, 23, 59, 60)):
+        yield call('tick', *label)
+
+
+def one_of_each_call(scale):
+    """Calls with nothing else wrong, then with all else wrong: the order of 8, 11 and the rest."""
+    yield from ('start', 'tick 1972 6 30 23 59 59', 'tick 0 0 0 99 99 99', 'write_block 256', 'write_block 0')
+    yield call('instant_of', scale, 1972, 6, 30, 23, 59, 59, 0)
+    yield call('instant_of', scale, 0, 0, 0, 99, 99, 99, SECOND)
+    yield call('stamp_of', -867_931_190_000_000, scale)
+    yield call('stamp_of', -2**63, scale)
+    yield text_line(scale, '1972-06-30T23:59:59')
+    yield text_line(scale, '')
+    yield call('write_text', -867_931_190_000_000, 0, scale, 6, 26)
+    yield call('write_text', -2**63, 0, scale, 6, 0)
+    yield call('write_julian', -867_931_190_000_000, scale)
+    yield call('read_julian', scale, bits_word(2441498.5), bits_word(0.5))
+    yield call('read_julian', scale, bits_word(0.0), bits_word(1.0))
+
+
+def tables():
+    for heading, table in good_tables():
+        yield '# ' + heading
+        yield table_line(table)
+        size = len(second.block_of_table(table))
+        yield from (call('write_block', size), call('write_block', size - 1), call('read_block', hex_word(second.block_of_table(table))))
+        months = list(table.steps)
+        for month in sorted(set(months[:2] + months[-1:])):
+            for label in labels_of_night(month, table.steps[month]):
+                yield call('tick', *label)
+                yield call('instant_of', UTC, *label, 250_000)
+        for place in sorted({0, 1, table.count - 1} & set(range(table.count))):
+            for near in (-2, -1, 0):
+                yield call('stamp_of', (table.held_from[place] + near) * SECOND + 750_000, UTC)
+    yield '# malformed tables'
+    for table in (T, table_of_steps(neighbours(1, 63), [1] * 63)):
+        for heading, malformed in malformed_tables(table):
+            yield '# malformed: ' + heading
+            yield table_line(malformed)
+            yield from ('start', 'tick 1972 6 30 23 59 59', 'write_block 256', call('stamp_of', 0, TAI))
+    for malformed in (changed(T, count=0), changed(N, offset=(1, 12))):
+        for scale in (UTC, GPS, 4):
+            yield table_line(malformed)
+            yield from one_of_each_call(scale)
+    yield table_line(BULLETIN)
+
+
+def blocks():
+    for block in blocks_of_limits():
+        yield call('read_block', hex_word(block))
+    yield "# T's block and B's block damaged at each place"
+    for table in (T, BULLETIN):
+        for block in damaged_blocks(second.block_of_table(table)):
+            yield call('read_block', hex_word(block))
+    yield call('read_block', hex_word(b'\x40' + b'\x02' * 63))
+    yield call('read_block', hex_word(b'\x40' + b'\xf4\x17' * 63))
+    yield call('read_block', hex_word(b'\x40' + b'\xf5\x17' * 63 + b'\x00'))
+    yield call('read_block', hex_word(b'\x40' + b'\xf8\x17' * 63))
+
+
+def texts():
+    yield table_line(BULLETIN)
+    label = Label(2016, 12, 31, 23, 59, 60)
+    for picture in PICTURES:
+        for decimals in DECIMALS + WRONG_DECIMALS:
+            yield text_line(UTC, text_of(picture, label, decimals))
+        for text in damaged_texts(text_of(picture, label, '.814')):
+            yield text_line(UTC, text)
+    for name in WRONG_NAMES:
+        yield text_line(UTC, text_of(2, label, '', name=name))
+    for text in ('', '.', 'T', '1986 APR  5 16:31:09', '1986 APR 5 16:31:09', '1986-4-12T16:31:09',
+                 '1986 12 APR 16:31:09', '1986-APR-12T16:31:09'):
+        yield text_line(UTC, text)
+
+
+def buffers():
+    instant = second.instant_of(BULLETIN, UTC, Label(2016, 12, 31, 23, 59, 60), 999_999)
+    for picture in PICTURES:
+        for digits in range(7):
+            needed = LENGTHS[picture] + digits + (digits > 0)
+            for room in (needed - 1, needed, needed + 1):
+                yield call('write_text', instant, picture, UTC, digits, room)
+    for picture, scale, digits in ((3, 0, 0), (0, 4, 0), (0, 0, 7), (3, 4, 7), (2**32 - 1, 0, 0), (0, 0, 2**32 - 1)):
+        for room in (0, 26):
+            yield call('write_text', instant, picture, scale, digits, room)
+    for room in (0, 1, 28, 29, 30, 256):
+        yield call('write_block', room)
+    for near in range(-3, 3):
+        yield call('write_text', near, 0, TAI, 6, 26)
+        yield call('write_text', near, 0, TAI, 3, 23)
+        yield call('write_text', near, 0, UTC, 0, 19)
+
+
+def doubles():
+    yield table_line(N)
+    for midnight in MIDNIGHTS:
+        for fraction in (0.0, 0.5, 1.0):
+            yield call('read_julian', TAI, bits_word(midnight), bits_word(fraction))
+    taken_out = 2441498.5  # 1972-06-30, whose 23:59:59 N takes out
+    for fraction in FRACTIONS_OF_KINDS:
+        for midnight in (taken_out, LAST_MIDNIGHT, -0.5, NOT_FINITE[0]):
+            yield call('read_julian', UTC, bits_word(midnight), bits_word(fraction))
+    for microsecond in MICROSECONDS_OF_DAY:
+        for fraction in fractions_beside_half(microsecond) + fractions_of_microsecond(microsecond):
+            for scale, midnight in ((UTC, taken_out), (UTC, LAST_MIDNIGHT), (GPS, LAST_MIDNIGHT)):
+                yield call('read_julian', scale, bits_word(midnight), bits_word(fraction))
+    yield '# ties: odd parts of 2^14'
+    for odd in (1, 3, 5, 7, 8_191, 8_193, 16_379, 16_381, 16_383):
+        for steps in (-1, 0, 1):
+            yield call('read_julian', TAI, bits_word(2451544.5), bits_word(beside(tie(odd), steps)))
+    yield '# the pair of an added second'
+    yield table_line(BULLETIN)
+    added = second.instant_of(BULLETIN, UTC, Label(2016, 12, 31, 23, 59, 60), 250_000)
+    for instant in (added - SECOND, added, added + SECOND):
+        yield from lines_of_instant(BULLETIN, instant, scales=(UTC,), digits=2)
+
+
+def protocol():
+    yield from OTHER_LINES
+    yield from long_lines()
+    for line in GOOD_LINES:
+        yield from damaged_lines(line)
+    yield table_line(BULLETIN)
+
+
+SECTIONS = (
+    ('Worked on the night desk', worked_on_the_night_desk),
+    ('Bulletin C', bulletin_c),
+    ('Ends of each scale and of 64 bits', ends_of_scales),
+    ('The calendar and the order of the refusals', calendar),
+    ('Tables', tables),
+    ('Blocks', blocks),
+    ('Texts wrong at each position', texts),
+    ('Buffers', buffers),
+    ('Doubles', doubles),
+    ('Lines that are no calls', protocol),
+)
+
+
+def stored_lines():
+    """All ASCII and no NUL, so that tools for text take the file for one; random lines have the other bytes too."""
+    for heading, section in SECTIONS:
+        yield '# ' + heading
+        yield from filter(is_plain, section())
+    yield f'# Random lines, seed {STORED_SEED}'
+    yield from filter(is_plain, random_lines(STORED_SEED, STORED_RANDOM_LINES))
+
+
+def is_plain(line):
+    return line.isascii() and '\x00' not in line
+
+
+# ---------------------------------------------------------------------------
+
+def main(words):
+    if words == ['stored']:
+        lines = stored_lines()
+    elif len(words) == 2 and all(word.isdigit() for word in words):
+        lines = random_lines(int(words[0]), int(words[1]))
+    else:
+        print('usage: generate.py SEED COUNT | generate.py stored', file=sys.stderr)
+        return 2
+    for line in lines:
+        sys.stdout.buffer.write(line.encode('latin-1') + b'\n')
+    return 0
+
+
+if __name__ == '__main__':
+    sys.exit(main(sys.argv[1:]))

@@ -1,0 +1,852 @@
+#!/usr/bin/env python3
+"""The second program of Mundreff: the same answers, found another way.
+
+It is written from the text of the scope (document 01, "What to build and its
+rules") and not from the Rattle code or its proofs, so that an error has to be
+made twice to pass unseen.  Python 3, standard library only.  Each section
+below is a section of document 01; the last two are the programs.
+
+    second.py              answers the lines of the program `calls` (stdin to stdout)
+    second.py ticks        prints the listing of the program `ticks`
+    second.py bulletin     compares Bulletin C's table with the machine's own leap-second list
+
+Here all days are counted from 1972-01-01, which is day 0, and all months from
+January 1972, which is month 0.  Whole numbers have no bounds in Python, so
+nothing here can overflow; a double is taken as the exact fraction it is.
+"""
+
+import math
+import os
+import re
+import struct
+import sys
+from bisect import bisect_right
+from fractions import Fraction
+from typing import NamedTuple
+
+
+# ---------------------------------------------------------------------------
+# Numbers of the refusals
+
+(ROOM, SHAPE, YEAR, DATE, CLOCK, NOSECOND, RANGE,
+ ASK, CUT, GROUPS, TABLE, TAIL, NUMBER) = range(1, 14)
+
+
+class Refused(Exception):
+    """A call's refusal: its number, and the place while reading a block."""
+
+    def __init__(self, number, place=0):
+        super().__init__(number, place)
+        self.number = number
+        self.place = place
+
+
+# ---------------------------------------------------------------------------
+# Instants and clocks: the calendar
+
+FIRST_YEAR, LAST_YEAR = 1972, 9999
+LAST_MONTH = 96_335
+
+
+def is_leap_year(year):
+    return year % 4 == 0 and (year % 100 != 0 or year % 400 == 0)
+
+
+def days_in_year(year):
+    return 366 if is_leap_year(year) else 365
+
+
+def days_in_month(year, month):
+    if month == 2:
+        return 29 if is_leap_year(year) else 28
+    return 30 if month in (4, 6, 9, 11) else 31
+
+
+def month_number(year, month):
+    return (year - FIRST_YEAR) * 12 + month - 1
+
+
+def first_days_of_months():
+    """The day on which each month begins, and last the day after the end of 9999."""
+    days = [0]
+    for year in range(FIRST_YEAR, LAST_YEAR + 1):
+        for month in range(1, 13):
+            days.append(days[-1] + days_in_month(year, month))
+    return days
+
+
+FIRST_DAY = first_days_of_months()
+END_OF_DAYS = FIRST_DAY[LAST_MONTH + 1]
+
+
+def day_number(year, month, day):
+    return FIRST_DAY[month_number(year, month)] + day - 1
+
+
+def date_of_day(number):
+    month = bisect_right(FIRST_DAY, number) - 1
+    return (FIRST_YEAR + month // 12, month % 12 + 1, number - FIRST_DAY[month] + 1)
+
+
+def day_of_year(year, month, day):
+    return day_number(year, month, day) - day_number(year, 1, 1) + 1
+
+
+# ---------------------------------------------------------------------------
+# Instants and clocks: labels, stamps and scales
+
+UTC, TAI, TDT, GPS = range(4)
+SCALE_OFFSET = {TAI: 0, TDT: 32_184_000, GPS: -19_000_000}  # microseconds
+
+SECOND = 1_000_000  # microseconds
+DAY_SECONDS = 86_400
+DAY = DAY_SECONDS * SECOND
+NOON_2000 = day_number(2000, 1, 1) * DAY_SECONDS + 12 * 3600  # seconds from 1972-01-01 00:00:00
+
+
+class Label(NamedTuple):
+    year: int
+    month: int
+    day: int
+    hour: int
+    minute: int
+    second: int
+
+
+class Stamp(NamedTuple):
+    scale: int
+    label: Label
+    microsecond: int
+
+
+def counted_seconds(label):
+    """Seconds from 1972-01-01 00:00:00 to the label when every day has 86,400."""
+    day = day_number(label.year, label.month, label.day)
+    return day * DAY_SECONDS + label.hour * 3600 + label.minute * 60 + label.second
+
+
+def label_of_counted_seconds(seconds):
+    day, second = divmod(seconds, DAY_SECONDS)
+    return Label(*date_of_day(day), second // 3600, second // 60 % 60, second % 60)
+
+
+def ask_scale(scale):
+    if scale > GPS:
+        raise Refused(ASK)
+
+
+def judge_year(year):
+    if not FIRST_YEAR <= year <= LAST_YEAR:
+        raise Refused(YEAR)
+
+
+def judge_date(year, month, day):
+    if not 1 <= month <= 12 or not 1 <= day <= days_in_month(year, month):
+        raise Refused(DATE)
+
+
+def judge_clock(scale, label, microsecond):
+    last_second = 60 if scale == UTC else 59
+    if label.hour > 23 or label.minute > 59 or label.second > last_second or microsecond > 999_999:
+        raise Refused(CLOCK)
+
+
+def judge_fields(table, scale, label, microsecond):
+    """Refusals 3, 4, 5 and 6, in this order."""
+    judge_year(label.year)
+    judge_date(label.year, label.month, label.day)
+    judge_clock(scale, label, microsecond)
+    if scale == UTC and not is_admitted(table, label):
+        raise Refused(NOSECOND)
+
+
+def instant_of_admitted(table, scale, label, microsecond):
+    reading = (counted_seconds(label) - NOON_2000) * SECOND + microsecond
+    if scale == UTC:
+        return reading + tai_minus_utc(table, month_number(label.year, label.month)) * SECOND
+    return reading - SCALE_OFFSET[scale]
+
+
+def instant_of(table, scale, label, microsecond):
+    """A stamp's fields to an instant."""
+    ask_scale(scale)
+    check_table(table)
+    judge_fields(table, scale, label, microsecond)
+    return instant_of_admitted(table, scale, label, microsecond)
+
+
+def stamp_of(table, instant, scale):
+    """An instant to a stamp."""
+    ask_scale(scale)
+    check_table(table)
+    if scale == UTC:
+        second, microsecond = divmod(instant, SECOND)
+        return Stamp(UTC, utc_label_of_second(table, second), microsecond)
+    second, microsecond = divmod(instant + SCALE_OFFSET[scale], SECOND)
+    counted = second + NOON_2000
+    if not 0 <= counted < END_OF_DAYS * DAY_SECONDS:
+        raise Refused(RANGE)
+    return Stamp(scale, label_of_counted_seconds(counted), microsecond)
+
+
+# ---------------------------------------------------------------------------
+# The leap table
+
+PLACES = 64
+
+
+class Table:
+    """A table value as a caller hands it in, good or not; it never changes.
+
+    Since it never changes, what the calls ask of it is worked out once: whether
+    it is good, and then the step of each month that has one, and the TAI second
+    (from 2000-01-01 12:00:00 TAI) from which each entry holds.
+    """
+
+    def __init__(self, count, months, offsets):
+        self.count = count
+        self.months = tuple(months) + (0,) * (PLACES - len(months))
+        self.offsets = tuple(offsets) + (0,) * (PLACES - len(offsets))
+        self.is_good = is_good_table(count, self.months, self.offsets)
+        if self.is_good:
+            self.used_months = self.months[:count]
+            self.steps = {self.months[i]: self.offsets[i] - self.offsets[i - 1] for i in range(1, count)}
+            self.held_from = [first_second_of_month(self.months[i]) + self.offsets[i] for i in range(count)]
+
+
+def is_good_table(count, months, offsets):
+    if not 1 <= count <= PLACES:
+        return False
+    if months[0] != 0 or offsets[0] != 10:
+        return False
+    for i in range(1, count):
+        if not months[i - 1] < months[i] <= LAST_MONTH:
+            return False
+        if offsets[i] - offsets[i - 1] not in (1, -1):
+            return False
+    return not any(months[count:]) and not any(offsets[count:])
+
+
+def check_table(table):
+    if not table.is_good:
+        raise Refused(TABLE)
+
+
+def first_second_of_month(month):
+    """The UTC midnight on which the month begins, counted like TAI: days of 86,400 seconds."""
+    return FIRST_DAY[month] * DAY_SECONDS - NOON_2000
+
+
+def tai_minus_utc(table, month):
+    return table.offsets[bisect_right(table.used_months, month) - 1]
+
+
+def step_after_day(table, year, month, day):
+    """+1 where a second is added at this day's end, -1 where one is taken out, else 0."""
+    if day != days_in_month(year, month):
+        return 0
+    return table.steps.get(month_number(year, month) + 1, 0)
+
+
+def last_second_of_minute(table, label):
+    """60 in the minute with an added second, 58 in that with one taken out, else 59."""
+    if label.hour != 23 or label.minute != 59:
+        return 59
+    return 59 + step_after_day(table, label.year, label.month, label.day)
+
+
+def is_admitted(table, label):
+    return label.second <= last_second_of_minute(table, label)
+
+
+def utc_label_of_second(table, second):
+    """The UTC label that stands during a whole TAI second past 2000-01-01 12:00:00 TAI."""
+    entry = bisect_right(table.held_from, second) - 1
+    if entry < 0:
+        raise Refused(RANGE)
+    utc = second - table.offsets[entry]
+    if entry + 1 < table.count and utc == first_second_of_month(table.months[entry + 1]):
+        # The next entry's midnight by this entry's offset, yet that entry does not hold: the added second.
+        return label_of_counted_seconds(utc - 1 + NOON_2000)._replace(second=60)
+    if utc + NOON_2000 >= END_OF_DAYS * DAY_SECONDS:
+        raise Refused(RANGE)
+    return label_of_counted_seconds(utc + NOON_2000)
+
+
+# The clock
+
+def start(table):
+    check_table(table)
+    return Label(1972, 1, 1, 0, 0, 0)
+
+
+def tick(table, label):
+    check_table(table)
+    judge_fields(table, UTC, label, 0)
+    year, month, day, hour, minute, second = label
+    if second < last_second_of_minute(table, label):
+        return Label(year, month, day, hour, minute, second + 1)
+    if minute < 59:
+        return Label(year, month, day, hour, minute + 1, 0)
+    if hour < 23:
+        return Label(year, month, day, hour + 1, 0, 0)
+    if day < days_in_month(year, month):
+        return Label(year, month, day + 1, 0, 0, 0)
+    if month < 12:
+        return Label(year, month + 1, 1, 0, 0, 0)
+    if year < LAST_YEAR:
+        return Label(year + 1, 1, 1, 0, 0, 0)
+    raise Refused(RANGE)
+
+
+# The table of Bulletin C
+
+BULLETIN_C = (  # (year, month, TAI-UTC from the first day of that month)
+    (1972, 1, 10), (1972, 7, 11), (1973, 1, 12), (1974, 1, 13), (1975, 1, 14), (1976, 1, 15),
+    (1977, 1, 16), (1978, 1, 17), (1979, 1, 18), (1980, 1, 19), (1981, 7, 20), (1982, 7, 21),
+    (1983, 7, 22), (1985, 7, 23), (1988, 1, 24), (1990, 1, 25), (1991, 1, 26), (1992, 7, 27),
+    (1993, 7, 28), (1994, 7, 29), (1996, 1, 30), (1997, 7, 31), (1999, 1, 32), (2006, 1, 33),
+    (2009, 1, 34), (2012, 7, 35), (2015, 7, 36), (2017, 1, 37),
+)
+
+
+def table_of_bulletin_c():
+    return Table(len(BULLETIN_C),
+                 [month_number(year, month) for year, month, _ in BULLETIN_C],
+                 [offset for _, _, offset in BULLETIN_C])
+
+
+# ---------------------------------------------------------------------------
+# The stored block
+
+MORE = 0x80  # the top bit, set on all groups but the last
+MOST_GROUPS = 3
+
+
+def number_in_block(block, place):
+    """The number that begins at this place, and the place after it."""
+    value = 0
+    for group in range(MOST_GROUPS):
+        if place + group >= len(block):
+            raise Refused(CUT, place)
+        byte = block[place + group]
+        value |= (byte & 0x7F) << (7 * group)
+        if not byte & MORE:
+            if group > 0 and byte == 0:
+                raise Refused(GROUPS, place)
+            return value, place + group + 1
+    raise Refused(GROUPS, place)
+
+
+def read_block(block):
+    count, place = number_in_block(block, 0)
+    if not 1 <= count <= PLACES:
+        raise Refused(TABLE, 0)
+    months, offsets = [0], [10]
+    for _ in range(1, count):
+        value, next_place = number_in_block(block, place)
+        gap, taken_out = divmod(value, 2)
+        if gap == 0 or months[-1] + gap > LAST_MONTH:
+            raise Refused(TABLE, place)
+        months.append(months[-1] + gap)
+        offsets.append(offsets[-1] + (-1 if taken_out else 1))
+        place = next_place
+    if place < len(block):
+        raise Refused(TAIL, place)
+    return Table(count, months, offsets)
+
+
+def groups_of_number(value):
+    groups = bytearray()
+    while value > 0x7F:
+        groups.append(value & 0x7F | MORE)
+        value >>= 7
+    groups.append(value)
+    return bytes(groups)
+
+
+def block_of_table(table):
+    block = groups_of_number(table.count)
+    for i in range(1, table.count):
+        gap = table.months[i] - table.months[i - 1]
+        taken_out = table.offsets[i] < table.offsets[i - 1]
+        block += groups_of_number(2 * gap + taken_out)
+    return block
+
+
+def fit(result, room):
+    """The result, where the lent buffer has room for it."""
+    if len(result) > room:
+        raise Refused(ROOM)
+    return result
+
+
+def write_block(table, room):
+    check_table(table)
+    return fit(block_of_table(table), room)
+
+
+# ---------------------------------------------------------------------------
+# Pictures
+
+MONTH_NAMES = (b'JAN', b'FEB', b'MAR', b'APR', b'MAY', b'JUN', b'JUL', b'AUG', b'SEP', b'OCT', b'NOV', b'DEC')
+
+TIME_OF_DAY = rb'([0-9]{2}):([0-9]{2}):([0-9]{2})(?:\.([0-9]{1,6}))?'
+PICTURE_0 = re.compile(rb'([0-9]{4})-([0-9]{2})-([0-9]{2})T' + TIME_OF_DAY)
+PICTURE_1 = re.compile(rb'([0-9]{4})-([0-9]{3})T' + TIME_OF_DAY)
+PICTURE_2 = re.compile(rb'([0-9]{4}) (' + b'|'.join(MONTH_NAMES) + rb') ([0-9]{2}) ' + TIME_OF_DAY)
+
+
+def date_of_day_of_year(year, day):
+    judge_year(year)
+    if not 1 <= day <= days_in_year(year):
+        raise Refused(DATE)
+    return date_of_day(day_number(year, 1, 1) + day - 1)
+
+
+def fields_of_text(text):
+    """The label and microsecond that a text of one of the pictures names."""
+    if found := PICTURE_0.fullmatch(text):
+        year, month, day, *time = found.groups()
+        date = (int(year), int(month), int(day))
+    elif found := PICTURE_1.fullmatch(text):
+        year, day, *time = found.groups()
+        date = date_of_day_of_year(int(year), int(day))
+    elif found := PICTURE_2.fullmatch(text):
+        year, name, day, *time = found.groups()
+        date = (int(year), MONTH_NAMES.index(name) + 1, int(day))
+    else:
+        raise Refused(SHAPE)
+    hour, minute, second, decimals = time
+    microsecond = int(decimals.ljust(6, b'0')) if decimals else 0
+    return Label(*date, int(hour), int(minute), int(second)), microsecond
+
+
+def read_text(table, scale, text):
+    ask_scale(scale)
+    check_table(table)
+    label, microsecond = fields_of_text(text)
+    judge_fields(table, scale, label, microsecond)
+    return instant_of_admitted(table, scale, label, microsecond), Stamp(scale, label, microsecond)
+
+
+def text_of_fields(picture, label, microsecond, digits):
+    year, month, day, hour, minute, second = label
+    if picture == 0:
+        date = f'{year:04}-{month:02}-{day:02}T'
+    elif picture == 1:
+        date = f'{year:04}-{day_of_year(year, month, day):03}T'
+    else:
+        date = f'{year:04} {MONTH_NAMES[month - 1].decode()} {day:02} '
+    point = '.' + f'{microsecond:06}'[:digits] if digits else ''
+    return f'{date}{hour:02}:{minute:02}:{second:02}{point}'.encode()
+
+
+def write_text(table, instant, picture, scale, digits, room):
+    if scale > GPS or picture > 2 or digits > 6:
+        raise Refused(ASK)
+    stamp = stamp_of(table, instant, scale)
+    return fit(text_of_fields(picture, stamp.label, stamp.microsecond, digits), room)
+
+
+# ---------------------------------------------------------------------------
+# Two-part Julian dates
+
+MIDNIGHT_OF_DAY_0 = 2441317.5  # 1972-01-01
+MIDNIGHT_OF_LAST_DAY = 5373483.5  # 9999-12-31
+
+
+def write_julian(table, instant, scale):
+    stamp = stamp_of(table, instant, scale)
+    # An added second counts as the first of the next day, as its 86,400 seconds are over.
+    day, second = divmod(counted_seconds(stamp.label), DAY_SECONDS)
+    # Python divides two whole numbers with one correct rounding, whatever their size.
+    return MIDNIGHT_OF_DAY_0 + day, (second * SECOND + stamp.microsecond) / DAY
+
+
+def is_whole_and_half(double):
+    return math.isfinite(double) and Fraction(double).denominator == 2
+
+
+def nearest_microsecond(fraction):
+    """Of the double's exact value, a tie to the later."""
+    return math.floor(Fraction(fraction) * DAY + Fraction(1, 2))
+
+
+def read_julian(table, scale, midnight, fraction):
+    ask_scale(scale)
+    check_table(table)
+    if not is_whole_and_half(midnight) or not 0.0 <= fraction < 1.0:  # a NaN compares false
+        raise Refused(NUMBER)
+    if not MIDNIGHT_OF_DAY_0 <= midnight <= MIDNIGHT_OF_LAST_DAY:
+        raise Refused(RANGE)
+    day = int(midnight - MIDNIGHT_OF_DAY_0)
+    microsecond_of_day = nearest_microsecond(fraction)
+    if microsecond_of_day == DAY:
+        day, microsecond_of_day = day + 1, 0
+    if day == END_OF_DAYS:
+        raise Refused(RANGE)
+    second, microsecond = divmod(microsecond_of_day, SECOND)
+    label = label_of_counted_seconds(day * DAY_SECONDS + second)
+    if scale == UTC and not is_admitted(table, label):
+        raise Refused(NOSECOND)
+    return instant_of_admitted(table, scale, label, microsecond)
+
+
+# ---------------------------------------------------------------------------
+# The program `ticks`
+
+LONGEST_LINE_OF_TICKS = 1_024
+MOST_TICKS = 3_600
+
+HEX = re.compile(rb'(?:[0-9a-fA-F]{2})*')
+
+
+def bytes_of_hex(text):
+    if not HEX.fullmatch(text):
+        raise Refused(SHAPE)
+    return bytes.fromhex(text.decode())
+
+
+def line_of_ticks(line):
+    if len(line) > LONGEST_LINE_OF_TICKS:
+        raise Refused(SHAPE)
+    return line
+
+
+def block_line(line):
+    return read_block(bytes_of_hex(line_of_ticks(line)))
+
+
+def stamp_line(table, line):
+    if b'.' in line_of_ticks(line):
+        raise Refused(SHAPE)
+    _, stamp = read_text(table, UTC, line)
+    return stamp.label
+
+
+def count_line(line):
+    if not line_of_ticks(line).isdigit() or int(line) > MOST_TICKS:
+        raise Refused(ASK)
+    return int(line)
+
+
+def seconds_of_listing(table, label, count):
+    """Count labels from this one on, or as many as there are."""
+    for shown in range(count):
+        if shown > 0:
+            try:
+                label = tick(table, label)
+            except Refused:
+                return  # the last second of 9999 is past
+        yield label
+
+
+def listing(lines):
+    """What `ticks` prints for its three lines."""
+    try:
+        table = block_line(lines[0])
+        label = stamp_line(table, lines[1])
+        count = count_line(lines[2])
+    except Refused as refused:
+        return b'refused %d\n' % refused.number
+    shown = [b'UTC TAI\n']
+    for label in seconds_of_listing(table, label, count):
+        second = instant_of(table, UTC, label, 0) // SECOND
+        shown.append(b'%s %d\n' % (text_of_fields(0, label, 0, 0), second))
+    return b''.join(shown)
+
+
+def read_line_of_ticks(descriptor):
+    """Byte by byte up to the line's end; of a line that is too long, as much as shows it."""
+    line = bytearray()
+    while len(line) <= LONGEST_LINE_OF_TICKS:
+        byte = os.read(descriptor, 1)
+        if byte in (b'', b'\n'):
+            break
+        line += byte
+    return bytes(line)
+
+
+def program_ticks(descriptor, output):
+    """Nothing past the third line is read; a line that is too long is the last one read."""
+    lines = []
+    while len(lines) < 3 and (not lines or len(lines[-1]) <= LONGEST_LINE_OF_TICKS):
+        lines.append(read_line_of_ticks(descriptor))
+    output.write(listing(lines + [b''] * (3 - len(lines))))
+
+
+# ---------------------------------------------------------------------------
+# The program `calls`: every public call, one to a line
+
+LONGEST_LINE = 2_048
+MOST_ROOM = 256
+BEFORE_THE_CALL = b'\xa5'  # each byte of a lent buffer
+
+
+class NoCall(Exception):
+    """The line is none of the calls: it answers `?`."""
+
+
+# Words of a line
+
+def number_in(low, high):
+    """A reader of whole numbers of a type with these ends."""
+    def read(word):
+        if not word.removeprefix(b'-').isdigit() or not low <= int(word) <= high:
+            raise NoCall
+        return int(word)
+    return read
+
+
+def read_hex(word):
+    if word == b'-':
+        return b''
+    if word == b'' or not HEX.fullmatch(word):
+        raise NoCall
+    return bytes.fromhex(word.decode())
+
+
+def read_bits(word):
+    if len(word) != 16 or not HEX.fullmatch(word):
+        raise NoCall
+    return struct.unpack('>d', bytes.fromhex(word.decode()))[0]
+
+
+U32 = number_in(0, 2**32 - 1)
+I32 = number_in(-2**31, 2**31 - 1)
+I64 = number_in(-2**63, 2**63 - 1)
+USIZE = number_in(0, 2**64 - 1)
+ROOM_OF_BUFFER = number_in(0, MOST_ROOM)
+PAIRS = number_in(0, PLACES)
+HEX_BYTES = read_hex
+BITS = read_bits
+
+
+# Answers of the calls, as the words of a line
+
+def words_of(*numbers):
+    return ' '.join(map(str, numbers))
+
+
+def words_of_stamp(stamp):
+    return words_of(stamp.scale, *stamp.label, stamp.microsecond)
+
+
+def words_of_bits(double):
+    return struct.pack('>d', double).hex()
+
+
+def words_of_table(table):
+    used = [i for i in range(PLACES) if table.months[i] or table.offsets[i]]
+    pairs = used[-1] + 1 if used else 0
+    return words_of(table.count, pairs, *(number for i in range(pairs)
+                                          for number in (table.months[i], table.offsets[i])))
+
+
+def answer_read_block(_, block):
+    try:
+        return f'0 0 {words_of_table(read_block(block))}'
+    except Refused as refused:
+        return words_of(refused.number, refused.place, 0, 0)
+
+
+def answer_of_writer(room, write):
+    try:
+        number, result = 0, write(room)
+    except Refused as refused:
+        number, result = refused.number, b''
+    buffer = result + BEFORE_THE_CALL * (room - len(result))
+    return words_of(number, len(result), buffer.hex() or '-')
+
+
+def answer_write_block(table, room):
+    return answer_of_writer(room, lambda room: write_block(table, room))
+
+
+def answer_write_text(table, instant, picture, scale, digits, room):
+    return answer_of_writer(room, lambda room: write_text(table, instant, picture, scale, digits, room))
+
+
+def answer_or_zeros(give, zeros):
+    """The words of an answer after a 0, or a refusal's number and zero in all other results."""
+    try:
+        return f'0 {give()}'
+    except Refused as refused:
+        return f'{refused.number} {zeros}'
+
+
+def answer_instant_of(table, scale, *fields):
+    return answer_or_zeros(lambda: words_of(instant_of(table, scale, Label(*fields[:6]), fields[6])), '0')
+
+
+def answer_stamp_of(table, instant, scale):
+    return answer_or_zeros(lambda: words_of_stamp(stamp_of(table, instant, scale)), '0 0 0 0 0 0 0 0')
+
+
+def answer_read_text(table, scale, text):
+    def give():
+        instant, stamp = read_text(table, scale, text)
+        return f'{instant} {words_of_stamp(stamp)}'
+    return answer_or_zeros(give, '0 0 0 0 0 0 0 0 0')
+
+
+def answer_write_julian(table, instant, scale):
+    return answer_or_zeros(lambda: ' '.join(map(words_of_bits, write_julian(table, instant, scale))),
+                           '0000000000000000 0000000000000000')
+
+
+def answer_read_julian(table, scale, midnight, fraction):
+    return answer_or_zeros(lambda: words_of(read_julian(table, scale, midnight, fraction)), '0')
+
+
+def answer_start(table):
+    return answer_or_zeros(lambda: words_of(*start(table)), '0 0 0 0 0 0')
+
+
+def answer_tick(table, *fields):
+    return answer_or_zeros(lambda: words_of(*tick(table, Label(*fields))), '0 0 0 0 0 0')
+
+
+CALLS = {  # each with the types of its words
+    b'read_block': (answer_read_block, (HEX_BYTES,)),
+    b'write_block': (answer_write_block, (ROOM_OF_BUFFER,)),
+    b'instant_of': (answer_instant_of, (U32,) * 8),
+    b'stamp_of': (answer_stamp_of, (I64, U32)),
+    b'read_text': (answer_read_text, (U32, HEX_BYTES)),
+    b'write_text': (answer_write_text, (I64, U32, U32, U32, ROOM_OF_BUFFER)),
+    b'write_julian': (answer_write_julian, (I64, U32)),
+    b'read_julian': (answer_read_julian, (U32, BITS, BITS)),
+    b'start': (answer_start, ()),
+    b'tick': (answer_tick, (U32,) * 6),
+}
+
+
+def values_of_words(types, words):
+    if len(words) != len(types):
+        raise NoCall
+    return [read(word) for read, word in zip(types, words)]
+
+
+def table_of_words(words):
+    if len(words) < 2:
+        raise NoCall
+    count, pairs = values_of_words((USIZE, PAIRS), words[:2])
+    numbers = values_of_words((U32, I32) * pairs, words[2:])
+    return Table(count, numbers[0::2], numbers[1::2])
+
+
+def answer_line(table, line):
+    """The answer to a line, and the table after it."""
+    if len(line) > LONGEST_LINE:
+        return '?', table
+    name, *words = line.split(b' ')  # exactly one blank between words: two make an empty word
+    try:
+        if name == b'table':
+            return 'ok', table_of_words(words)
+        if name not in CALLS:
+            return '?', table
+        answer, types = CALLS[name]
+        return answer(table, *values_of_words(types, words)), table
+    except NoCall:
+        return '?', table
+
+
+def lines_of(stream):
+    """Lines without their newline; of a line that is too long, as much as shows it."""
+    while chunk := stream.readline(LONGEST_LINE + 1):
+        if chunk.endswith(b'\n'):
+            yield chunk[:-1]
+            continue
+        yield chunk
+        while chunk and not chunk.endswith(b'\n'):
+            chunk = stream.readline(1 << 16)
+
+
+def program_calls(stream, output):
+    table = table_of_bulletin_c()
+    for line in lines_of(stream):
+        answer, table = answer_line(table, line)
+        output.write(answer.encode() + b'\n')
+
+
+# ---------------------------------------------------------------------------
+# Bulletin C against the machine's own list (tzdata's)
+
+ZONEINFO = '/usr/share/zoneinfo'
+
+
+def entries_of_leap_seconds_list(text):
+    """Lines of NTP seconds (from 1900-01-01) and TAI-UTC from then on."""
+    from_1900_to_1972 = sum(map(days_in_year, range(1900, FIRST_YEAR)))
+    entries = []
+    for line in text.splitlines():
+        words = line.split('#')[0].split()
+        if words:
+            day, rest = divmod(int(words[0]), DAY_SECONDS)
+            date = date_of_day(day - from_1900_to_1972)
+            entries.append((*date, int(words[1])) if rest == 0 else (*date, line))
+    return entries
+
+
+def entries_of_leapseconds(text):
+    """Lines `Leap 1972 Jun 30 23:59:60 + S`, one for each second added (+) or taken out (-)."""
+    entries = [(1972, 1, 1, 10)]
+    for line in text.splitlines():
+        words = line.split()
+        if words and words[0] == 'Leap':
+            _, year, name, day, _, sign, _ = words
+            month = MONTH_NAMES.index(name.upper().encode()) + 1
+            next_day = date_of_day(day_number(int(year), month, int(day)) + 1)
+            entries.append((*next_day, entries[-1][-1] + (1 if sign == '+' else -1)))
+    return entries
+
+
+LISTS = (('leap-seconds.list', entries_of_leap_seconds_list), ('leapseconds', entries_of_leapseconds))
+
+
+def differences_from_list(entries):
+    """Bulletin C's entries that the list lacks or dates otherwise."""
+    ours = [(year, month, 1, offset) for year, month, offset in BULLETIN_C]
+    return [(our, theirs) for our, theirs in zip(ours, entries + [None] * len(ours)) if our != theirs]
+
+
+def compare_with_list(path, entries_of, output):
+    with open(path, encoding='ascii', errors='replace') as file:
+        entries = entries_of(file.read())
+    differences = differences_from_list(entries)
+    for our, theirs in differences:
+        print(f'{path}: Bulletin C here has {our}, the list {theirs}', file=output)
+    print(f'{path}: {len(BULLETIN_C)} entries compared, {len(differences)} differences', file=output)
+    for entry in entries[len(BULLETIN_C):]:
+        print(f'{path}: later than the scope: {entry}', file=output)
+    return not differences
+
+
+def program_bulletin(output, folder=ZONEINFO):
+    """Prints what was compared; False where a list disagrees."""
+    paths = [(os.path.join(folder, name), entries_of) for name, entries_of in LISTS]
+    there = [(path, entries_of) for path, entries_of in paths if os.path.exists(path)]
+    if not there:
+        print('this machine has no leap-second list (' + ', '.join(path for path, _ in paths)
+              + '): nothing was compared', file=output)
+    return all([compare_with_list(path, entries_of, output) for path, entries_of in there])
+
+
+# ---------------------------------------------------------------------------
+
+def main(words):
+    if words == []:
+        program_calls(sys.stdin.buffer, sys.stdout.buffer)
+    elif words == ['ticks']:
+        program_ticks(sys.stdin.fileno(), sys.stdout.buffer)
+    elif words == ['bulletin']:
+        return 0 if program_bulletin(sys.stdout) else 1
+    else:
+        print('usage: second.py [ticks | bulletin]', file=sys.stderr)
+        return 2
+    return 0
+
+
+if __name__ == '__main__':
+    sys.exit(main(sys.argv[1:]))

@@ -1,0 +1,385 @@
+#!/usr/bin/env python3
+"""Self-checks of the second program: python3 test_second.py
+
+Expected answers are written by hand from document 01 and from the readings of
+its silent places, not taken from the program.
+"""
+
+import datetime
+import io
+import os
+import struct
+import subprocess
+import sys
+import tempfile
+from fractions import Fraction
+
+import generate
+import second
+from second import GPS, TAI, TDT, UTC, Label
+
+HERE = os.path.dirname(os.path.abspath(__file__))
+B_LINE = 'table 28 28 ' + ' '.join(f'{(year - 1972) * 12 + month - 1} {offset}' for year, month, offset in second.BULLETIN_C)
+T_LINE = 'table 3 3 0 10 6 11 12 12'
+N_LINE = 'table 2 2 0 10 6 9'
+
+
+def answers(*lines, end='\n'):
+    """What the program `calls` answers to these lines."""
+    output = io.BytesIO()
+    second.program_calls(io.BytesIO('\n'.join(lines).encode('latin-1') + end.encode()), output)
+    return output.getvalue().decode().splitlines()
+
+
+def expect(line, answer, table=B_LINE):
+    ok, found = answers(table, line)
+    assert (ok, found) == ('ok', answer), f'{table[:40]} | {line[:200]}: expected {answer}, found {found}'
+
+
+def text_call(scale, text):
+    return f'read_text {scale} ' + (text.encode('latin-1').hex() or '-')
+
+
+def expect_text(scale, text, instant, fields, table=B_LINE):
+    expect(text_call(scale, text), f'0 {instant} {scale} {fields}', table)
+
+
+def expect_refusal(scale, text, number, table=B_LINE):
+    expect(text_call(scale, text), f'{number} 0 0 0 0 0 0 0 0 0', table)
+
+
+def expect_written(instant, picture, scale, digits, text):
+    expect(f'write_text {instant} {picture} {scale} {digits} {len(text)}', f'0 {len(text)} {text.encode().hex()}')
+
+
+def bits(double):
+    return struct.pack('>d', double).hex()
+
+
+def expect_julian(midnight, fraction, answer, scale=TAI, table=B_LINE):
+    expect(f'read_julian {scale} {bits(midnight)} {bits(fraction)}', answer, table)
+
+
+# ---------------------------------------------------------------------------
+# Document 01
+
+def test_worked_on_the_night_desk():
+    expect_text(UTC, '1972-01-01T00:00:00', -883_655_990_000_000, '1972 1 1 0 0 0 0')
+    expect_text(UTC, '1972-06-30T23:59:60', -867_931_190_000_000, '1972 6 30 23 59 60 0', T_LINE)
+    expect_text(UTC, '1972-07-01T00:00:00', -867_931_189_000_000, '1972 7 1 0 0 0 0', T_LINE)
+    expect_text(UTC, '1972-06-30T23:59:58', -867_931_192_000_000, '1972 6 30 23 59 58 0', N_LINE)
+    expect_text(UTC, '1972-07-01T00:00:00', -867_931_191_000_000, '1972 7 1 0 0 0 0', N_LINE)
+    expect_refusal(UTC, '1972-06-30T23:59:59', 6, N_LINE)
+    expect_text(UTC, '2016-366T23:59:60', 536_500_836_000_000, '2016 12 31 23 59 60 0')
+    expect_text(UTC, '2017-01-01T00:00:00', 536_500_837_000_000, '2017 1 1 0 0 0 0')
+    expect_text(UTC, '1986 APR 12 16:31:09.814', -433_020_507_186_000, '1986 4 12 16 31 9 814000')
+    expect_refusal(TAI, '2016-12-31T23:59:60', 5)
+    expect('read_block 8100', '10 0 0 0')
+    expect('read_block 0100', '12 1 0 0')
+    expect('read_block 0201', '11 1 0 0')
+    expect('read_block -', '9 0 0 0')
+    expect('read_block 41', '11 0 0 0')
+    expect_written(-1, 0, TAI, 0, '2000-01-01T11:59:59')
+    expect_text(TDT, '1972-01-01T00:00:00', -883_656_032_184_000, '1972 1 1 0 0 0 0')
+    expect('write_text -883656032184000 0 1 0 19', '7 0 ' + 'a5' * 19)
+    expect('write_julian 0 1', f'0 {bits(2451544.5)} {bits(0.5)}')
+
+
+def test_table_and_clock():
+    assert answers('write_block 29') == ['0 29 1c0c0c18181818181818241818303c3018241818242424a80148544824']
+    assert answers('write_block 29', B_LINE, 'write_block 29')[0::2] == answers('write_block 29') * 2
+    expect('read_block 030C0c', '0 0 3 3 0 10 6 11 12 12')
+    expect('read_block 020d', '0 0 2 2 0 10 6 9')
+    expect('read_block 01', '0 0 1 1 0 10')
+    expect('start', '0 1972 1 1 0 0 0')
+    expect('tick 1972 6 30 23 59 59', '0 1972 6 30 23 59 60', T_LINE)
+    expect('tick 1972 6 30 23 59 60', '0 1972 7 1 0 0 0', T_LINE)
+    expect('tick 1972 6 30 23 59 58', '0 1972 7 1 0 0 0', N_LINE)
+    expect('tick 1972 6 30 23 59 59', '6 0 0 0 0 0 0', N_LINE)
+    expect('tick 9999 12 31 23 59 59', '7 0 0 0 0 0 0')
+    expect('tick 9999 12 31 23 59 58', '0 9999 12 31 23 59 59')
+
+
+def test_neighbouring_steps():
+    down_up = 'table 3 3 0 10 1 9 2 10'
+    expect('tick 1972 1 31 23 59 58', '0 1972 2 1 0 0 0', down_up)
+    expect('tick 1972 2 29 23 59 59', '0 1972 2 29 23 59 60', down_up)
+    up_down = 'table 3 3 0 10 1 11 2 10'
+    expect('tick 1972 1 31 23 59 59', '0 1972 1 31 23 59 60', up_down)
+    expect('tick 1972 2 29 23 59 58', '0 1972 3 1 0 0 0', up_down)
+    expect('tick 9999 11 30 23 59 59', '0 9999 11 30 23 59 60', 'table 2 2 0 10 96335 11')
+
+
+def test_listing():
+    def listing(*lines):
+        return second.listing(list(lines))
+    assert listing(b'030C0C', b'1972-06-30T23:59:59', b'3') == (
+        b'UTC TAI\n1972-06-30T23:59:59 -867931191\n1972-06-30T23:59:60 -867931190\n1972-07-01T00:00:00 -867931189\n')
+    good = (b'01', b'9999-365T23:59:58', b'3600')
+    assert listing(*good) == b'UTC TAI\n9999-12-31T23:59:58 252455572808\n9999-12-31T23:59:59 252455572809\n'
+    for place, line, number in ((0, b'', 9), (0, b'0041zz', 2), (0, b'0041', 11), (0, b'010', 2), (0, b'0x01', 2), (0, b'01\r', 2),
+                                (0, b'01' * 512, 12), (0, b'01' * 513, 2), (1, b'', 2), (1, b'1972-01-01T00:00:00.0', 2),
+                                (1, b'1971-01-01T00:00:00', 3), (1, b'1972-01-01T00:00:00\r', 2), (1, b'1972-06-30T23:59:60', 6),
+                                (2, b'', 8), (2, b'3601', 8), (2, b'+3', 8), (2, b'-0', 8), (2, b'3 ', 8), (2, b'3\r', 8),
+                                (2, b'9' * 1024, 8), (2, b'0' * 1025, 2)):
+        lines = [*good[:place], line, *good[place + 1:]]
+        assert listing(*lines) == b'refused %d\n' % number, lines
+    assert listing(b'zz', b'', b'') == b'refused 2\n' and listing(b'01', b'1971-01-01T00:00:00', b'x') == b'refused 3\n'
+    assert listing(b'01', b'1972-01-01T00:00:00', b'0') == b'UTC TAI\n'
+    assert listing(b'01', b'1972-01-01T00:00:00', b'0' * 1023 + b'1') == b'UTC TAI\n1972-01-01T00:00:00 -883655990\n'
+
+
+def test_ticks_reads_three_lines_only():
+    def ticks_then_rest(given):
+        script = f'{sys.executable} {HERE}/second.py ticks; cat'
+        return subprocess.run(['sh', '-c', script], input=given, stdout=subprocess.PIPE, check=True).stdout
+    assert ticks_then_rest(b'01\n1972-01-01T00:00:00\n1\nrest') == b'UTC TAI\n1972-01-01T00:00:00 -883655990\nrest'
+    assert ticks_then_rest(b'') == b'refused 9\n'
+    assert ticks_then_rest(b'01\n1972-001T00:00:00') == b'refused 8\n'
+    assert ticks_then_rest(b'01' * 600 + b'\n\n\n').startswith(b'refused 2\n')
+
+
+# ---------------------------------------------------------------------------
+# The readings, by their numbers
+
+def test_readings_of_instants():
+    ends = {UTC: (-883_655_990_000_000, 252_455_572_836_999_999), TAI: (-883_656_000_000_000, 252_455_572_799_999_999),
+            TDT: (-883_656_032_184_000, 252_455_572_767_815_999), GPS: (-883_655_981_000_000, 252_455_572_818_999_999)}
+    for scale, (first, last) in ends.items():  # 1
+        expect(f'stamp_of {first} {scale}', f'0 {scale} 1972 1 1 0 0 0 0')
+        expect(f'stamp_of {last} {scale}', f'0 {scale} 9999 12 31 23 59 59 999999')
+        for outside in (first - 1, last + 1, -2**63, 2**63 - 1):  # 2
+            expect(f'stamp_of {outside} {scale}', '7 0 0 0 0 0 0 0 0')
+            expect(f'write_julian {outside} {scale}', '7 0000000000000000 0000000000000000')
+    down = 'table 64 64 0 10 ' + ' '.join(f'{month} {10 - month}' for month in range(1, 64))  # 3
+    expect('stamp_of 252455572746999999 0', '0 0 9999 12 31 23 59 59 999999', down)
+    expect('stamp_of 252455572747000000 0', '7 0 0 0 0 0 0 0 0', down)
+    expect('instant_of 4294967295 0 0 0 99 99 99 1000000', '8 0')  # 4
+    expect('stamp_of 0 4', '8 0 0 0 0 0 0 0 0')  # 5
+
+
+def test_readings_of_tables():
+    for table in ('table 0 0', 'table 1 0', 'table 2 1 0 10', 'table 1 2 0 10 6 11', 'table 65 1 0 10', 'table 18446744073709551615 1 0 10',
+                  'table 1 1 1 10', 'table 1 1 0 9', 'table 2 2 0 10 0 11', 'table 3 3 0 10 6 11 6 12', 'table 3 3 0 10 6 11 5 12',
+                  'table 2 2 0 10 6 10', 'table 2 2 0 10 6 12', 'table 2 2 0 10 6 8', 'table 2 2 0 10 96336 11', 'table 1 2 0 10 0 1',
+                  'table 1 2 0 10 1 0', 'table 1 64 0 10' + ' 0 0' * 62 + ' 0 1', 'table 2 2 0 10 4294967295 11',
+                  'table 3 3 0 10 1 2147483647 2 -2147483648'):  # 9
+        expect('start', '11 0 0 0 0 0 0', table)
+        expect('tick 0 0 0 0 0 0', '11 0 0 0 0 0 0', table)  # 10
+        expect('write_block 2', '11 0 a5a5', table)
+        expect('stamp_of 0 1', '11 0 0 0 0 0 0 0 0', table)
+        expect('stamp_of 0 4', '8 0 0 0 0 0 0 0 0', table)
+        expect_refusal(GPS, '', 11, table)
+        expect_refusal(4, '', 8, table)
+        expect('instant_of 4 0 0 0 99 99 99 1000000', '8 0', table)
+        expect('write_text 0 3 1 0 0', '8 0 -', table)
+        expect('read_julian 4 7ff8000000000000 7ff8000000000000', '8 0', table)
+        expect('read_julian 1 7ff8000000000000 7ff8000000000000', '11 0', table)
+    for table in ('table 1 1 0 10', 'table 1 64 0 10' + ' 0 0' * 63, 'table 2 2 0 10 96335 9', 'table 3 3 0 10 1 11 2 10'):  # 8
+        expect('start', '0 1972 1 1 0 0 0', table)
+
+
+def test_readings_of_the_clock():
+    expect('tick 9999 12 31 23 59 60', '6 0 0 0 0 0 0')  # 12
+    expect('tick 10000 1 1 0 0 0', '3 0 0 0 0 0 0')
+    expect('tick 1971 13 1 0 0 0', '3 0 0 0 0 0 0')
+    expect('tick 1972 6 30 12 30 60', '6 0 0 0 0 0 0')  # 13
+    expect('tick 2016 12 31 23 58 60', '6 0 0 0 0 0 0')
+    expect('tick 2016 12 31 23 58 59', '0 2016 12 31 23 59 0')
+    expect('tick 2016 12 30 23 59 60', '6 0 0 0 0 0 0')
+    expect('tick 1972 6 31 24 0 0', '4 0 0 0 0 0 0')
+    expect('tick 1972 6 30 23 59 61', '5 0 0 0 0 0 0')
+
+
+def test_readings_of_blocks():
+    for block, number, place in (('02', 9, 1), ('028080', 9, 1), ('02808080', 10, 1), ('808080', 10, 0), ('8080', 9, 0), ('80', 9, 0),
+                                 ('808000', 10, 0), ('C100', 10, 0), ('8000', 10, 0), ('00', 11, 0), ('0200', 11, 1), ('0201', 11, 1),
+                                 ('02A0E10B', 11, 1), ('02A1E10B', 11, 1), ('0180', 12, 1), ('01808080', 12, 1), ('030C', 9, 2),
+                                 ('030C8000', 10, 2), ('02FFFFFF', 10, 1), ('02FFFF7F', 11, 1), ('8101', 11, 0), ('020C00', 12, 2)):
+        expect(f'read_block {block}', f'{number} {place} 0 0')  # 17 to 21
+    expect('read_block 029EE10B', '0 0 2 2 0 10 96335 11')  # 20, 23
+    expect('read_block 029fe10b', '0 0 2 2 0 10 96335 9')
+    expect('write_block 3', '1 0 a5a5a5', 'table 2 2 0 10 96335 9')
+    expect('write_block 5', '0 4 029fe10ba5', 'table 2 2 0 10 96335 9')
+
+
+def test_readings_of_texts():
+    months = ('JAN', 'FEB', 'MAR', 'APR', 'MAY', 'JUN', 'JUL', 'AUG', 'SEP', 'OCT', 'NOV', 'DEC')
+    for number, name in enumerate(months, 1):  # 24
+        ok = answers(text_call(UTC, f'1999 {name} 02 03:04:05'))[0]
+        assert ok.endswith(f' 0 1999 {number} 2 3 4 5 0') and ok.startswith('0 '), ok
+    for text in ('', '.', '1986 Apr 12 16:31:09', '1986 APX 12 16:31:09', '1986-04-12T16:31:09.', '1986-04-12T16:31:09.1234567',
+                 '1986 APR  5 16:31:09',
+                 '1986 APR 5 16:31:09', '1986-04-12T16:31:09\n', '1986-04-12T16:31:09Z', ' 1986-04-12T16:31:09', '1986-04-12t16:31:09',
+                 '1986-04-12 16:31:09', '1971-13-32T24:60:61.', '\xef\xbb\xbf1986-04-12T16:31:09',
+                 '1986-04-12T16:31:09\x00', '1986-04-12T16:31:0\xb2'):
+        expect_refusal(UTC, text, 2)  # 25 to 27
+    for text, number in (('1971-13-01T24:00:00', 3), ('1972-13-01T24:00:00', 4), ('1972-366T24:00:00', 5), ('1973-366T24:00:00', 4),
+                         ('1972-000T24:00:00', 4), ('1971-000T00:00:00', 3), ('1972-06-30T24:59:60', 5), ('1972-02-30T00:00:00', 4),
+                         ('1972-06-30T12:30:60', 6), ('1972-06-30T23:59:61', 5), ('2016-06-30T23:59:60', 6), ('1972-06-29T23:59:60', 6)):
+        expect_refusal(UTC, text, number)  # 28 to 30
+    expect_refusal(GPS, '1972-06-30T12:30:60', 5)
+    expect_text(UTC, '2016-366T23:59:60.5', 536_500_836_500_000, '2016 12 31 23 59 60 500000')  # 31
+    expect('instant_of 0 1972 6 30 12 30 60 1000000', '5 0')  # 32
+    expect('instant_of 0 10000 6 30 12 30 60 1000000', '3 0')
+    expect('instant_of 0 1972 6 30 23 59 60 999999', '0 -867931189000001')
+
+
+def test_readings_of_written_texts():
+    expect('write_text 9223372036854775807 0 1 0 0', '7 0 -')  # 33
+    expect('write_text 0 3 1 0 2', '8 0 a5a5')
+    expect('write_text 0 0 1 7 2', '8 0 a5a5')
+    expect('write_text 0 0 1 0 18', '1 0 ' + 'a5' * 18)  # 34
+    expect('write_text 0 1 1 0 18', '0 17 ' + b'2000-001T12:00:00'.hex() + 'a5')
+    expect_written(-1, 0, TAI, 6, '2000-01-01T11:59:59.999999')  # 35
+    expect_written(-1, 2, TAI, 1, '2000 JAN 01 11:59:59.9')
+    expect_written(536_500_836_999_999, 0, UTC, 3, '2016-12-31T23:59:60.999')
+    expect_written(536_500_836_999_999, 1, UTC, 0, '2016-366T23:59:60')
+
+
+def test_readings_of_julian_dates():
+    for pair_of in (536_500_836_250_000, 536_500_837_250_000):  # 36
+        expect(f'write_julian {pair_of} 0', f'0 {bits(2457754.5)} {bits(250_000 / 86_400_000_000)}')
+    expect_julian(2457754.5, 250_000 / 86_400_000_000, '0 536500837250000', UTC)
+    noon = 43_200_000_000
+    expect_julian(2451544.5, float.fromhex('0x1.b26c2e8aee24fp-3'), f'0 {18_327_202_812 - noon}')  # 37
+    expect_julian(2451544.5, 1 / 16384, f'0 {5_273_438 - noon}')  # 38
+    expect_julian(2451544.5, 3 / 16384, f'0 {15_820_313 - noon}')
+    for midnight in (-0.5, 0.5, 4294967296.5, 2.0**51 + 0.5, 2441316.5, 5373484.5):  # 39
+        expect_julian(midnight, 0.5, '7 0')
+    for midnight in (-0.0, 2451545.0, 2451544.25, 2.0**52, float('inf'), float('-inf'), float('nan')):
+        expect_julian(midnight, 0.5, '13 0')
+    smallest = struct.unpack('>d', bytes(7) + b'\x01')[0]
+    for fraction, answer in ((-0.0, f'0 {-noon}'), (-smallest, '13 0'), (smallest, f'0 {-noon}'), (1 - 2.0**-53, f'0 {noon}'),
+                             (1.0, '13 0'), (float('nan'), '13 0'), (float('inf'), '13 0')):  # 40
+        expect_julian(2451544.5, fraction, answer)
+    expect_julian(0.5, 1.0, '13 0')  # 41
+    expect_julian(5373483.5, 1 - 2.0**-53, '7 0')  # 42
+    expect_julian(5373483.5, 86_399_999_999 / 86_400_000_000, '0 252455572799999999')
+    last = 86_399_000_000  # 43
+    expect_julian(2441498.5, (last - 0.5) / 86_400_000_000 + 2.0**-53, '6 0', UTC, N_LINE)
+    expect_julian(2441498.5, (last - 0.5) / 86_400_000_000 - 2.0**-52, '0 -867931191000001', UTC, N_LINE)
+    expect_julian(2441498.5, 86_399_999_999 / 86_400_000_000, '6 0', UTC, N_LINE)
+    expect_julian(2441498.5, 1 - 2.0**-53, '0 -867931191000000', UTC, N_LINE)
+    expect('write_julian -43200000000 1', '0 4142b42c40000000 0000000000000000')  # 46
+
+
+def test_fraction_is_rounded_once():
+    """No double lies nearer to the exact fraction, which is off by at most one part in 2^54."""
+    dice = generate.Dice(2)
+    for microsecond in [1, 3, 7, 86_399_999_999, *(dice.below(second.DAY) for _ in range(2_000))]:
+        midnight, fraction = second.write_julian(second.table_of_bulletin_c(), microsecond - 43_200_000_000, TAI)
+        exact = Fraction(microsecond, 86_400_000_000)
+        error = abs(Fraction(fraction) - exact)
+        assert midnight == 2451544.5 and error <= Fraction(1, 2**54)
+        assert all(error <= abs(Fraction(generate.beside(fraction, steps)) - exact) for steps in (-1, 1))
+
+
+# ---------------------------------------------------------------------------
+# The protocol
+
+def test_lines():
+    start = '0 1972 1 1 0 0 0'
+    assert answers('start', end='') == [start] and answers(end='') == []
+    assert answers('', 'start', '') == ['?', start, '?']
+    for line in ('start ', ' start', 'start\r', 'START', 'start 0', 'stamp_of 0', 'stamp_of  0 1', 'stamp_of 0 1 1',
+                 'stamp_of 0\t1', '# start',
+                 'stamp_of +0 1', 'stamp_of 0x0 1', 'stamp_of - 1', 'stamp_of --1 1', 'stamp_of 1_0 1', 'stamp_of 9223372036854775808 1',
+                 'stamp_of -9223372036854775809 1', 'stamp_of 0 4294967296', 'stamp_of 0 -1', 'read_block 0', 'read_block 0g', 'read_block',
+                 'read_block 01 02', 'read_block --', 'write_block 257', 'write_block -1', 'write_text 0 0 0 0 257', 'read_julian 1 - -',
+                 'read_julian 1 3fe000000000000 3fe0000000000000', 'read_julian 1 03fe0000000000000 3fe0000000000000', 'table', 'table 1',
+                 'table 1 1 0', 'table 1 1 0 10 6', 'table 1 65' + ' 0 0' * 65, 'table 18446744073709551616 0', 'table 1 1 4294967296 10',
+                 'table 1 1 0 2147483648', 'table 1 1 0 -2147483649', 'table -1 0', 'stamp_of 1\u00b2 1'):
+        assert answers(line, 'start') == ['?', start], line
+    expect('stamp_of -0 0001', '0 1 2000 1 1 12 0 0 0')
+    expect('tick 1972 1 1 0 0 -0', '0 1972 1 1 0 0 1')
+    expect('read_julian 1 4142B42C40000000 3fE0000000000000', '0 0')
+    expect('write_block 0', '1 0 -')
+    for table in ('table 1 1 0 -2147483648', 'table 1 1 4294967295 2147483647', 'table 18446744073709551615 0'):
+        expect('start', '11 0 0 0 0 0 0', table)
+
+
+def test_long_lines():
+    def tick(size):
+        return 'tick 1972 1 1 0 0 ' + '7'.rjust(size - 18, '0')
+    next_label, next_start = '0 1972 1 1 0 0 8', '0 1972 1 1 0 0 0'
+    assert answers(tick(2048), 'start') == [next_label, next_start]
+    assert answers(tick(2048), end='') == [next_label]
+    for size in (2049, 2050, 4096, 4097, 4098, 100_000):
+        assert answers(tick(size), 'start') == ['?', next_start]
+        assert answers(tick(size), end='') == ['?']
+    assert answers('read_text 0 ' + '3' * 2036)[0].startswith('2 ')
+
+
+# ---------------------------------------------------------------------------
+# One part against another, and against Python's own calendar
+
+def test_calendar_against_datetime():
+    day_0 = datetime.date(1972, 1, 1).toordinal()
+    assert second.END_OF_DAYS == datetime.date.max.toordinal() - day_0 + 1 == 2_932_167
+    for number in [*range(0, second.END_OF_DAYS, 101), second.END_OF_DAYS - 1]:
+        date = datetime.date.fromordinal(number + day_0)
+        assert second.date_of_day(number) == (date.year, date.month, date.day)
+        assert second.day_number(date.year, date.month, date.day) == number
+        assert second.day_of_year(date.year, date.month, date.day) == date.timetuple().tm_yday
+
+
+def test_clock_against_instants():
+    """Ticks and instants go on together over every step, on both sides of it."""
+    for _, table in generate.good_tables():
+        for month in table.steps:
+            label = Label(*generate.day_before_month(month), 23, 59, 50)
+            instant = second.instant_of(table, UTC, label, 7)
+            for _ in range(20):
+                assert second.stamp_of(table, instant, UTC) == (UTC, label, 7)
+                assert second.instant_of(table, UTC, label, 7) == instant
+                label, instant = second.tick(table, label), instant + second.SECOND
+
+
+def test_round_trips():
+    """Over random good tables and instants: text and Julian date read back, and blocks too."""
+    dice = generate.Dice(1)
+    for _ in range(3_000):
+        table, scale, picture = generate.random_table(dice), dice.pick(generate.SCALES), dice.pick(generate.PICTURES)
+        assert second.read_block(second.write_block(table, 256)).__dict__ == table.__dict__
+        instant = generate.random_instant(dice, table)
+        try:
+            stamp = second.stamp_of(table, instant, scale)
+        except second.Refused as refused:
+            assert refused.number == second.RANGE
+            continue
+        text = second.write_text(table, instant, picture, scale, 6, 256)
+        assert second.read_text(table, scale, text) == (instant, stamp)
+        shift = second.SECOND if stamp.label.second == 60 else 0
+        assert second.read_julian(table, scale, *second.write_julian(table, instant, scale)) == instant + shift
+
+
+def test_bulletin_can_disagree():
+    with tempfile.TemporaryDirectory() as folder:
+        output = io.StringIO()
+        assert second.program_bulletin(output, folder) and 'no leap-second list' in output.getvalue()
+        good = 'Leap\t1972\tJun\t30\t23:59:60\t+\tS\n'
+        with open(os.path.join(folder, 'leapseconds'), 'w', encoding='ascii') as file:
+            file.write(good)
+        assert not second.program_bulletin(io.StringIO(), folder)
+    assert second.entries_of_leapseconds(good) == [(1972, 1, 1, 10), (1972, 7, 1, 11)]
+    assert second.entries_of_leap_seconds_list('#x\n2272060800\t10\t# 1 Jan 1972\n2287785600 11\n') == [(1972, 1, 1, 10), (1972, 7, 1, 11)]
+
+
+def test_stored_input():
+    lines = list(generate.stored_lines())
+    assert 9_000 < len(lines) < 16_000 and all('\n' not in line for line in lines)
+    assert lines == list(generate.stored_lines())
+    found = {answer.split()[0] for answer in answers(*lines)}
+    assert found == {'ok', '?', *map(str, range(14))}, found
+
+
+def main():
+    tests = [(name, check) for name, check in globals().items() if name.startswith('test_')]
+    for name, check in tests:
+        check()
+        print(name, 'holds')
+
+
+if __name__ == '__main__':
+    main()
