@@ -1,16 +1,13 @@
 -- The night desk's proved rows, from the rows of the crates `text` and `block`.
 -- Assumes nothing.
-use mathlib.Core.Path.{_≡_, refl, ap}
-use mathlib.Core.List.{List}
-use Prim.Native.Nat.{ℕ}
+use mathlib.Core.Path.{_≡_, refl}
 use lib.IntN.{ℤ}
-use Rattle.leap.specs.declared.Table.{Table}
 use Rattle.stamp.specs.declared.Stamp.{Stamp}
 use Rattle.answer.specs.declared.Refusal.{Refusal}
 use Rattle.answer.specs.Refusals.{number}
 use Rattle.text.specs.declared.TextAnswer.{TextAnswer}
 use Rattle.text.specs.declared.TextAnswer.the-variants.{Read, Refused}
-use Rattle.text.specs.Text.{textAnswer, answered}
+use Rattle.text.specs.Text.{answered}
 use Rattle.text.proofs.Worked as text
 use Rattle.block.proofs.Worked as block
 use Rattle.promises.specs.Worked.{rows, AllRight}

@@ -1,3 +1,4 @@
+pub mod Handed
 pub mod Settled
 pub mod Refuses
 pub mod Texts

@@ -9,7 +9,6 @@ use Rattle.laws.proofs.Placed.{length-over, over-front, over-rest}
 use Rattle.answer.specs.declared.Refusal.{Refusal}
 use Rattle.answer.specs.declared.Written.the-variants.{Wrote}
 use Rattle.answer.specs.Buffers.{written, bufferAfter}
-use Rattle.answer.proofs.Orders.{number-some}
 use Rattle.answer.proofs.Writers.{refused-keeps, wrote-over}
 use Rattle.block.proofs.Zeros.{gives-no-table}
 use Rattle.promises.specs.Refused.{Kept, Refuses}
@@ -25,4 +24,4 @@ kept tests bytes buffer n e =
     }
 
 pub refuses : Refuses
-refuses = record { has-a-number = number-some; writes-nothing = refused-keeps; writes-no-more = kept; gives-no-table = gives-no-table }
+refuses = record { writes-nothing = refused-keeps; writes-no-more = kept; gives-no-table = gives-no-table }

@@ -7,7 +7,6 @@ use Prim.Native.Nat.{ℕ}
 use lib.ListN.{length, take, drop}
 use Rattle.answer.specs.declared.Refusal.{Refusal}
 use Rattle.answer.specs.declared.Written.the-variants.{Wrote, Refused}
-use Rattle.answer.specs.Refusals.{number}
 use Rattle.answer.specs.Buffers.{written, bufferAfter}
 use Rattle.block.specs.declared.BlockAnswer.the-variants.{Refused as BlockRefused}
 use Rattle.block.specs.Reading.{zeroTable, readBlock}
@@ -19,8 +18,6 @@ pub record Kept (bytes buffer after : List ℕ) (n : ℕ) : Type 0 where
   pub the-length : length after ≡ length buffer
 
 pub record Refuses : Type 0 where
-  -- no refusal has the number 0 of success
-  pub has-a-number : (why : Refusal) → number why ≡ 0 → ⊥
   -- every writer, whatever it is asked before ROOM and whatever its bytes
   pub writes-nothing : (tests : List (Bool × Refusal)) (bytes buffer : List ℕ) (why : Refusal) → written tests bytes buffer ≡ Refused why → bufferAfter tests bytes buffer ≡ buffer
   pub writes-no-more : (tests : List (Bool × Refusal)) (bytes buffer : List ℕ) (n : ℕ) → written tests bytes buffer ≡ Wrote n → Kept bytes buffer (bufferAfter tests bytes buffer) n

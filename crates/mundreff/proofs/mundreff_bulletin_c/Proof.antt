@@ -1,0 +1,14 @@
+-- The table of `leap::bulletin_c`, stored.
+-- Assumes nothing.
+use mathlib.Core.Path.{refl, _∙_}
+use borrow.Author.Needs.{needs}
+use Rattle.mundreff.proofs.mundreff_bulletin_c.Statement.{statement}
+use Rattle.mundreff.proofs.mundreff_bulletin_c.Tie as tie
+
+pub mundreff-bulletin-c-spec : {M : Type 1} → statement M
+mundreff-bulletin-c-spec =
+    tie.close
+    (tie.spec
+    (λ c κs. search needs)
+    (λ c κs. search needs)
+    (λ c. (refl, c .store-table .ensures ∙ c .before .before .before .before .bulletin-c .ensures)))

@@ -1,0 +1,26 @@
+-- The answer of `stamp::stamp_of`, under the table that was made.
+-- Assumes nothing.
+use mathlib.Core.Path.{ap₂, _∙_}
+use lib.IntN.{ℤ}
+use mir.Facts.{toZ-ofZ}
+use Rattle.leap.specs.declared.Table.{Table}
+use borrow.Author.Needs.{needs}
+use Rattle.stamp.specs.Stamps.{stampAnswer}
+use Rattle.mundreff.specs.Answers.{stampResults}
+use Rattle.mundreff.proofs.Results.{said}
+use Rattle.mundreff.proofs.mundreff_stamp_of.Statement.{statement}
+use Rattle.mundreff.proofs.mundreff_stamp_of.Tie as tie
+
+pub mundreff-stamp-of-spec : {M : Type 1} → statement M
+mundreff-stamp-of-spec =
+    tie.close
+    (tie.spec
+    (λ c κs. search needs)
+    (λ c κs. search needs)
+    (λ c κs. search needs)
+    (λ c.
+    let t = c .before .before .before in
+    let a = t .before .args in
+    said stampResults (c .give-stamp .ensures)
+    (c .before .before .stamp-of .ensures
+    ∙ ap₂ (λ (u : Table) (x : ℤ). stampAnswer u x (a .scale)) (t .table-of .ensures) (toZ-ofZ (t .before .fits .instant)))))

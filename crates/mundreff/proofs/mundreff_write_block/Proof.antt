@@ -1,0 +1,26 @@
+-- The answer of `block::write_block` and what it leaves in the buffer, under the table that was made.
+-- Assumes nothing.
+use mathlib.Core.Path.{ap, _∙_}
+use Rattle.leap.specs.declared.Table.{Table}
+use borrow.Author.Needs.{needs}
+use Rattle.mundreff.specs.Answers.{writtenResults}
+use Rattle.mundreff.specs.Calls.{blockWritten, blockAfter}
+use Rattle.mundreff.proofs.Results.{said}
+use Rattle.mundreff.proofs.mundreff_write_block.Statement.{statement}
+use Rattle.mundreff.proofs.mundreff_write_block.Tie as tie
+
+pub mundreff-write-block-spec : {M : Type 1} → statement M
+mundreff-write-block-spec =
+    tie.close
+    (tie.spec
+    (λ c κs. search needs)
+    (λ c κs. search needs)
+    (λ c κs. search needs)
+    (λ c. search needs)
+    (λ c.
+    let w = c .before .before .before .before in
+    let t = w .before .before in
+    let buffer = t .before .before .args .out .now in (
+      said writtenResults (c .give-length .ensures) (w .write-block .ensures .0 ∙ ap (λ (u : Table). blockWritten u buffer) (t .table-of .ensures)),
+      w .write-block .ensures .1 ∙ ap (λ (u : Table). blockAfter u buffer) (t .table-of .ensures),
+    )))

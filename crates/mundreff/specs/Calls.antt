@@ -1,0 +1,39 @@
+-- What C hands over as numbers in a row, and the answers that the crates below state in parts.
+-- Assumes nothing.
+use mathlib.Core.List.{List}
+use Prim.Native.Nat.{ℕ, _+_}
+use lib.Ieee.{Float}
+use lib.ListN.{getD}
+use Rattle.answer.specs.declared.Written.{Written}
+use Rattle.answer.specs.Buffers.{written, bufferAfter}
+use Rattle.leap.specs.declared.Table.{Table}
+use Rattle.stamp.specs.declared.Label.{Label}
+use Rattle.stamp.specs.declared.Reading.{Reading}
+use Rattle.stamp.specs.Labels.{label}
+use Rattle.block.specs.Blocks.{blockOf}
+use Rattle.block.specs.Promise.{tests}
+use Rattle.julian.specs.declared.JulianDate.{JulianDate}
+
+-- ---- what is handed over
+
+-- the label whose six numbers stand from place k on
+abbrev pub labelFrom : ℕ → List ℕ → Label
+labelFrom k s = label (getD s k 0) (getD s (k + 1) 0) (getD s (k + 2) 0) (getD s (k + 3) 0) (getD s (k + 4) 0) (getD s (k + 5) 0)
+
+-- a stamp's numbers are its scale, its label and its microsecond
+abbrev pub scaleFrom : List ℕ → ℕ
+scaleFrom s = getD s 0 0
+
+abbrev pub readingFrom : List ℕ → Reading
+readingFrom s = record { label = labelFrom 1 s; micro = getD s 7 0 }
+
+abbrev pub pair : Float → Float → JulianDate
+pair m f = record { midnight = m; fraction = f }
+
+-- ---- a block that is written: the answer, and the buffer afterwards
+
+abbrev pub blockWritten : Table → List ℕ → Written
+blockWritten t buffer = written (tests t) (blockOf t) buffer
+
+abbrev pub blockAfter : Table → List ℕ → List ℕ
+blockAfter t buffer = bufferAfter (tests t) (blockOf t) buffer
