@@ -58,7 +58,7 @@ pub fn month_length(m: u32) -> u32
 pub fn days_before(m: u32) -> u64
     ensures { λ r. ⌜ r ≡ daysBefore m ⌝ }
 {
-    (m / 4800) as u64 * 146097 + table::entry((m % 4800) as usize) as u64
+    (m / 4800) as u64 * 146097 + table::entry((m % 4800) as usize)
 }
 
 pub fn month(m: u32) -> Span

@@ -1,7 +1,8 @@
 // The days before each of the 4,800 months of the cycle of 400 years: each is the one before it plus that month's length.
-// `entry` alone reads the table, once in a call: a constant array is copied wherever it is read.
+// A constant array is copied where it is read, as far as the compiler sees that the index can reach, so `entry` adds up three reads
+// of few places each: of the month's century, of its block of four years, and of its place in the block.
 ghost use mathlib.Core.Path.{_≡_};
-ghost use Prim.Native.Nat.{_<_};
+ghost use Prim.Native.Nat.{_*_, _<_};
 ghost use Rattle.calendar.specs.Calendar.{daysBefore};
 
 const DAYS_BEFORE: [u32; 4800] = [
@@ -4807,9 +4808,51 @@ const DAYS_BEFORE: [u32; 4800] = [
     146066,
 ];
 
-pub(crate) fn entry(k: usize) -> u32
+// The days before century c of the cycle: 4 places of the table.
+fn before_century(c: usize) -> u32
+    requires { ⌜ c < 4 ⌝ }
+    ensures { λ r. ⌜ r ≡ daysBefore (1200 * c) ⌝ }
+{
+    DAYS_BEFORE[1200 * c]
+}
+
+// The days before block q of four years in the first century: 32 places.
+fn before_block(q: usize) -> u32
+    requires { ⌜ q < 25 ⌝ }
+    ensures { λ r. ⌜ r ≡ daysBefore (48 * q) ⌝ }
+{
+    let i = q % 32;
+    DAYS_BEFORE[48 * i]
+}
+
+// The days before month j of the first four years: 64 places.
+fn before_month(j: usize) -> u32
+    requires { ⌜ j < 48 ⌝ }
+    ensures { λ r. ⌜ r ≡ daysBefore j ⌝ }
+{
+    let i = j % 64;
+    DAYS_BEFORE[i]
+}
+
+fn wide(x: u32) -> u64
+    ensures { λ r. ⌜ r ≡ x ⌝ }
+{
+    x as u64
+}
+
+// The first year of a later century is no leap year: from its March on there is one day less.
+pub(crate) fn entry(k: usize) -> u64
     requires { ⌜ k < 4800 ⌝ }
     ensures { λ r. ⌜ r ≡ daysBefore k ⌝ }
 {
-    DAYS_BEFORE[k]
+    let c = k / 1200;
+    let r = k % 1200;
+    let days = wide(before_century(c)) + wide(before_block(r / 48)) + wide(before_month(r % 48));
+    if c == 0 {
+        return days;
+    }
+    if r < 2 {
+        return days;
+    }
+    days - 1
 }

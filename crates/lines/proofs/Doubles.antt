@@ -1,4 +1,5 @@
--- Doubles and their bit patterns, a NaN among them. Assumes nothing.
+-- Doubles and their bit patterns, a NaN among them.
+-- Assumes nothing.
 use mathlib.Core.Path.{_≡_, refl, sym, ap, subst, _∙_}
 use mathlib.Core.Bool.{Bool, true, false, not}
 use Prim.Native.Nat.{ℕ, _%_, _<_, _≤_}

@@ -1,6 +1,7 @@
+use Prim.Native.Nat.{_%_}
 use borrow.Author.Needs.{needs}
 use native.Mathlib.Omega.{arith}
-use Rattle.calendar.proofs.Laws.{days-split}
+use Rattle.calendar.proofs.Laws.{days-split, days-most}
 use Rattle.calendar.proofs.days_before.Statement.{statement}
 use Rattle.calendar.proofs.days_before.Tie as tie
 
@@ -16,11 +17,8 @@ cast-entry c = search needs
 entry-requires : tie.Need-entry-requires
 entry-requires c κs = search needs
 
-cast-result-2 : tie.Need-cast-result-2
-cast-result-2 c = search needs
-
 add-result : tie.Need-add-result
-add-result c = search needs
+add-result c = omega (arith, days-most (c .before .args .m % 4800))
 
 returns : tie.Need-returns
 returns c = omega (arith, days-split (c .before .args .m))
@@ -28,4 +26,4 @@ returns c = omega (arith, days-split (c .before .args .m))
 pub days-before-spec : {M : Type 1} → statement M
 days-before-spec =
     tie.close
-    (tie.spec cast-result mul-result cast-entry entry-requires cast-result-2 add-result returns)
+    (tie.spec cast-result mul-result cast-entry entry-requires add-result returns)

@@ -1,3 +1,5 @@
+-- No room, or the text placed.
+-- Assumes nothing.
 use native.Mathlib.Omega.{arith}
 use Rattle.lines.proofs.Appending.{room-yes, room-no}
 use borrow.Author.Needs.{needs}

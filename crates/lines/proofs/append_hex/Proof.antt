@@ -1,3 +1,5 @@
+-- `-` for none, or two digits for each byte where there is room.
+-- Assumes nothing.
 use native.Mathlib.Omega.{arith}
 use Prim.Native.Nat.{_+_, _*_}
 use lib.ListN.{length}

@@ -1,3 +1,5 @@
+-- A sign in front, and the two texts appended as one.
+-- Assumes nothing.
 use mathlib.Core.List.{[], _∷_}
 use lib.ListN.{take, replicate}
 use Rattle.lines.specs.Shown.{signedText}

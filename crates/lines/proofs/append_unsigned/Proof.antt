@@ -1,3 +1,5 @@
+-- The fewest digits are the digits of the definition.
+-- Assumes nothing.
 use native.Mathlib.Omega.{arith}
 use mathlib.Core.Path.{_≡_}
 use lib.ListN.{take}

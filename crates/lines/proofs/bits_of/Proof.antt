@@ -1,3 +1,5 @@
+-- What the digits passed give, and those to come, is the whole; sixteen digits fit.
+-- Assumes nothing.
 use native.Mathlib.Omega.{arith}
 use Prim.Native.Nat.{_-_, _≤_, _<_, _^_}
 use mathlib.Core.Path.{_≡_, sym, _∙_}

@@ -1,3 +1,5 @@
+-- What the digits passed give, and those to come, is the whole.
+-- Assumes nothing.
 use Rattle.lines.proofs.Counting.{turn-more, turn-bad}
 use Prim.Native.Nat.{_-_, _≤_}
 use mathlib.Core.Path.{_≡_, sym, _∙_}

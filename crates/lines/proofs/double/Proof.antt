@@ -1,3 +1,5 @@
+-- A pattern above infinity is a NaN.
+-- Assumes nothing.
 use Rattle.lines.proofs.Doubles.{nan-pattern, other-pattern}
 use borrow.Author.Needs.{needs}
 use Rattle.lines.proofs.double.Statement.{statement}

@@ -1,3 +1,5 @@
+-- Both tests, one after the other.
+-- Assumes nothing.
 use borrow.Author.Needs.{needs}
 use Rattle.lines.proofs.ended.Statement.{statement}
 use Rattle.lines.proofs.ended.Tie as tie

@@ -1,3 +1,5 @@
+-- Digit, size and value in the order of the definition.
+-- Assumes nothing.
 use native.Mathlib.Omega.{arith}
 use Rattle.lines.proofs.Counting.{no-digit-low, no-digit-high, too-large, one-more}
 use borrow.Author.Needs.{needs}

@@ -1,3 +1,5 @@
+-- Case by case.
+-- Assumes nothing.
 use borrow.Author.Needs.{needs}
 use Rattle.lines.proofs.filled.Statement.{statement}
 use Rattle.lines.proofs.filled.Tie as tie

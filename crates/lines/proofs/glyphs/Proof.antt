@@ -1,3 +1,5 @@
+-- The two digits as the definition has them.
+-- Assumes nothing.
 use Rattle.lines.specs.Shown.{hexText}
 use borrow.Author.Needs.{needs}
 use Rattle.lines.proofs.glyphs.Statement.{statement}

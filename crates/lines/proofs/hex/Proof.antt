@@ -1,3 +1,5 @@
+-- Room first, then nothing but pairs.
+-- Assumes nothing.
 use native.Mathlib.Omega.{arith}
 use Rattle.lines.proofs.Pairs.{no-room, not-pairs, all-pairs, paired-few}
 use borrow.Author.Needs.{needs}

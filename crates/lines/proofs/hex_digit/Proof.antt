@@ -1,3 +1,5 @@
+-- Range by range.
+-- Assumes nothing.
 use native.Mathlib.Omega.{arith}
 use borrow.Author.Tests.{le-leb, lt-leb}
 use Rattle.lines.specs.Hex.{nibble}

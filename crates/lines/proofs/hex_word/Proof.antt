@@ -1,3 +1,5 @@
+-- By the word's first byte.
+-- Assumes nothing.
 use mathlib.Core.Path.{_∙_}
 use lib.ListN.{length}
 use Rattle.lines.proofs.Pairs.{hex-empty, hex-dash, hex-dashed, word-plain}

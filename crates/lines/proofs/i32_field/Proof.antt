@@ -1,3 +1,5 @@
+-- A number of an i32 loses nothing.
+-- Assumes nothing.
 use mathlib.Core.Path.{sym, ap, subst}
 use lib.Dec.{lit<}
 use mir.Syntax.{w32}

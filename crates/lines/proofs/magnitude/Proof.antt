@@ -1,3 +1,5 @@
+-- -1 less the number, and one more, where it is negative.
+-- Assumes nothing.
 use native.Mathlib.Omega.{arith}
 use mir.Facts.{toZ-ofZ}
 use Rattle.lines.proofs.Signs.{sign-is, size-low, size-high, flipped-fits, flipped-back}

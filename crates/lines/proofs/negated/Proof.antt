@@ -1,3 +1,5 @@
+-- -1 less one less than the size, which always fits.
+-- Assumes nothing.
 use native.Mathlib.Omega.{arith}
 use Prim.Native.Nat.{_-_, _<_, _^_}
 use mir.Syntax.{w64}

@@ -1,3 +1,5 @@
+-- The size negated, or bad.
+-- Assumes nothing.
 use mathlib.Core.Path.{_∙_, sym, ap}
 use mir.Facts.{toZ-ofZ}
 use Rattle.lines.specs.Numbers.{negative}

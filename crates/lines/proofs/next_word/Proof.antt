@@ -1,3 +1,5 @@
+-- Past the end, no blank, or up to the next blank.
+-- Assumes nothing.
 use native.Mathlib.Omega.{arith}
 use Rattle.lines.proofs.Words.{word-none, word-past, word-some}
 use borrow.Author.Needs.{needs}

@@ -1,3 +1,5 @@
+-- A NaN differs from itself.
+-- Assumes nothing.
 use Rattle.lines.proofs.Doubles.{nan-bits, no-nan}
 use borrow.Author.Needs.{needs}
 use Rattle.lines.proofs.pattern.Statement.{statement}

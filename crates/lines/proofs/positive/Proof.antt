@@ -1,3 +1,5 @@
+-- The size itself, or bad.
+-- Assumes nothing.
 use native.Mathlib.Omega.{arith}
 use Prim.Native.Nat.{_<_, _^_}
 use mathlib.Core.Path.{_∙_, sym, ap}

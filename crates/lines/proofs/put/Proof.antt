@@ -1,3 +1,5 @@
+-- A copy to the part from the index on.
+-- Assumes nothing.
 use Rattle.laws.proofs.Placed.{place-part}
 use borrow.Author.Needs.{needs}
 use Rattle.lines.proofs.put.Statement.{statement}

@@ -1,3 +1,5 @@
+-- The digits of the bytes passed are stored.
+-- Assumes nothing.
 use native.Mathlib.Omega.{arith}
 use borrow.Author.Needs.{needs}
 use Prim.Native.Nat.{_-_, _≤_}

@@ -1,3 +1,5 @@
+-- Case by case; the number is read back from its bits.
+-- Assumes nothing.
 use mir.Facts.{toZ-ofZ}
 use borrow.Author.Needs.{needs}
 use Rattle.lines.proofs.signed.Statement.{statement}

@@ -1,3 +1,5 @@
+-- What is stored and what is still to be read are all the pairs.
+-- Assumes nothing.
 use native.Mathlib.Omega.{arith}
 use borrow.Author.Needs.{needs}
 use Prim.Native.Nat.{_-_, _/_}

@@ -1,3 +1,5 @@
+-- None of the bytes passed is the one looked for.
+-- Assumes nothing.
 use Prim.Native.Nat.{_+_, _-_, _≤_}
 use mathlib.Core.Path.{_≡_, refl, ap}
 use native.Mathlib.Omega.{arith}

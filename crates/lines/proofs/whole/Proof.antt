@@ -1,3 +1,5 @@
+-- By the word's first byte.
+-- Assumes nothing.
 use native.Mathlib.Omega.{arith}
 use Prim.Native.Nat.{_+_, _-_, _^_}
 use mathlib.Core.Path.{_∙_, sym, ap, subst}

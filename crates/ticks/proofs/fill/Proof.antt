@@ -1,3 +1,5 @@
+-- The bytes read fit the buffer, and each turn stores one.
+-- Assumes nothing.
 use Prim.Native.Nat.{_-_, _≤_}
 use mathlib.Core.Path.{_≡_}
 use borrow.Author.Needs.{needs}

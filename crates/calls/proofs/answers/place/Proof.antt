@@ -1,3 +1,5 @@
+-- An i32 fits an i64.
+-- Assumes nothing.
 use mir.Facts.{toZ-ofZ, sfits-widen}
 use Prim.Native.Nat.{_-_}
 use borrow.Author.Needs.{needs}

@@ -1,3 +1,5 @@
+-- The place stays below 64.
+-- Assumes nothing.
 use Prim.Native.Nat.{_-_, _≤_}
 use borrow.Author.Needs.{needs}
 use Rattle.calls.proofs.answers.used_places.Statement.{statement}
