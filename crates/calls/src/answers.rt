@@ -56,19 +56,10 @@ fn label(out: &mut [u8], at: usize, l: Label) -> usize {
     three(out, a, l.hour, l.minute, l.second)
 }
 
-fn scale_number(s: Scale) -> u64 {
-    match s {
-        Scale::Utc => 0,
-        Scale::Tai => 1,
-        Scale::Tdt => 2,
-        Scale::Gps => 3,
-    }
-}
-
 fn stamped(out: &mut [u8], at: usize, z: Stamp) -> usize {
     let r = z.reading;
     let s = z.scale;
-    let a = number(out, at, scale_number(s));
+    let a = number(out, at, s.number() as u64);
     let b = label(out, a, r.label);
     number(out, b, r.micro as u64)
 }
@@ -474,7 +465,7 @@ fn call(line: &[u8], word: &[u8], c: Cursor, t: Table, out: &mut [u8], at: usize
 }
 
 // Appends the answer to a line, and gives the table after it.
-pub fn answer(line: &[u8], t: Table, out: &mut [u8], at: usize) -> Answered {
+pub(crate) fn answer(line: &[u8], t: Table, out: &mut [u8], at: usize) -> Answered {
     let end = lines::front(line, lines::until(line, 0, 32));
     let c = Cursor {
         at: end,

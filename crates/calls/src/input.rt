@@ -108,7 +108,7 @@ fn answer_chunk(chunk: &[u8], line: &mut [u8], state: State, out: &mut [u8]) -> 
 }
 
 // One read: what came is answered, and the answers are written out before the next read.
-pub fn one_turn(chunk: &mut [u8], line: &mut [u8], state: State, out: &mut [u8]) -> Turn {
+pub(crate) fn one_turn(chunk: &mut [u8], line: &mut [u8], state: State, out: &mut [u8]) -> Turn {
     let got = libc::read(STDIN_FILENO, chunk);
     if got <= 0 {
         return Turn { more: false, state };
@@ -145,7 +145,7 @@ fn run(chunk: &mut [u8], line: &mut [u8], state: State, out: &mut [u8]) -> State
 }
 
 // The last line may lack its end.
-pub fn pump() {
+pub(crate) fn pump() {
     let mut chunk = io::large_buffer();
     let mut line = [0u8; 2048];
     let mut out = io::large_buffer();

@@ -10,14 +10,13 @@ use lib.ListN.{replicate}
 use Rattle.answer.specs.declared.Written.{Written}
 use Rattle.answer.specs.declared.Written.the-variants.{Wrote, Refused as NotWritten}
 use Rattle.answer.specs.Refusals.{number}
-use Rattle.stamp.specs.declared.Scale.{Scale}
-use Rattle.stamp.specs.declared.Scale.the-variants.{Utc, Tai, Tdt, Gps}
 use Rattle.stamp.specs.declared.Stamp.{Stamp}
 use Rattle.stamp.specs.declared.InstantAnswer.{InstantAnswer}
 use Rattle.stamp.specs.declared.InstantAnswer.the-variants.{At, Refused as NoInstant}
 use Rattle.stamp.specs.declared.StampAnswer.{StampAnswer}
 use Rattle.stamp.specs.declared.StampAnswer.the-variants.{Stamped, Refused as NoStamp}
 use Rattle.stamp.specs.Labels.{fields}
+use Rattle.stamp.specs.Instants.{scaleNumber}
 use Rattle.clock.specs.declared.TickAnswer.{TickAnswer}
 use Rattle.clock.specs.declared.TickAnswer.the-variants.{Next, Refused as NoTick}
 use Rattle.text.specs.declared.TextAnswer.{TextAnswer}
@@ -26,12 +25,6 @@ use Rattle.julian.specs.declared.JulianAnswer.{JulianAnswer}
 use Rattle.julian.specs.declared.JulianAnswer.the-variants.{Dated, Refused as NoDate}
 
 -- ---- stamps
-
-abbrev pub scaleNumber : Scale → ℕ
-scaleNumber Utc = 0
-scaleNumber Tai = 1
-scaleNumber Tdt = 2
-scaleNumber Gps = 3
 
 abbrev pub stampFields : Stamp → List ℕ
 stampFields z = scaleNumber (z .scale) ∷ (fields (z .reading .label) ++ z .reading .micro ∷ [])

@@ -9,7 +9,7 @@ ghost use Rattle.clock.specs.Clock.{startAnswer, tickAnswer};
 ghost use Rattle.block.specs.Reading.{answered, readBlock};
 ghost use Rattle.text.specs.Text.{textAnswer, writeAnswer, bufferThen};
 ghost use Rattle.julian.specs.Dates.{julianAnswer, dateAnswer};
-ghost use Rattle.mundreff.specs.Answers.{scaleNumber, stampFields, writtenResults, instantResults, stampResults, textResults, tickResults, julianResults};
+ghost use Rattle.mundreff.specs.Answers.{stampFields, writtenResults, instantResults, stampResults, textResults, tickResults, julianResults};
 ghost use Rattle.mundreff.specs.Calls.{labelFrom, scaleFrom, readingFrom, pair, blockWritten, blockAfter};
 use answer::Written;
 use block::BlockAnswer;
@@ -71,17 +71,6 @@ fn reading_of(stamp: &[u32; 8]) -> Reading
 
 // ---- what C is handed: each `give_` stores the values of an answer, zero on a refusal, and returns its number
 
-fn scale_number(scale: Scale) -> u32
-    ensures { λ r. ⌜ r ≡ scaleNumber scale ⌝ }
-{
-    match scale {
-        Scale::Utc => 0,
-        Scale::Tai => 1,
-        Scale::Tdt => 2,
-        Scale::Gps => 3,
-    }
-}
-
 fn store_table<'a>(
     t: Table,
     count: &'a mut usize,
@@ -108,7 +97,7 @@ fn store_stamp(z: Stamp, out: &mut [u32; 8])
     ensures { λ _. ⌜ now (out .exit) ≡ stampFields z ⌝ }
 {
     let scale = z.scale;
-    let number = scale_number(scale);
+    let number = scale.number();
     let l = z.reading.label;
     let micro = z.reading.micro;
     *out = [

@@ -21,6 +21,13 @@ use Rattle.stamp.specs.Labels.{Offsets, uniform, monthOf, asked, secondO
 abbrev pub scaleOf : ℕ → Scale
 scaleOf k = cond (eqb k 0) Utc (cond (eqb k 1) Tai (cond (eqb k 2) Tdt Gps))
 
+-- 0 UTC, 1 TAI, 2 TDT, 3 GPS
+abbrev pub scaleNumber : Scale → ℕ
+scaleNumber Utc = 0
+scaleNumber Tai = 1
+scaleNumber Tdt = 2
+scaleNumber Gps = 3
+
 -- a uniform reading less the instant, in microseconds
 abbrev pub fixed : Scale → ℤ
 fixed Utc = pos 0

@@ -8,7 +8,7 @@ ghost use lib.Signed.{leZ, _≤ℤ_, _<ℤ_};
 ghost use Rattle.leap.specs.Leap.{tabled, accepted};
 ghost use Rattle.calendar.specs.Calendar.{daysBefore, monthLength};
 ghost use Rattle.stamp.specs.Labels.{lastMinute, monthOf, minuteIn, realYear, realMonth, dayIn, realClock, secondOf};
-ghost use Rattle.stamp.specs.Instants.{scaleOf, fixed, offsetsOf, mostSecond, instantAt, countOf, fieldsAnswer, instantAnswer};
+ghost use Rattle.stamp.specs.Instants.{scaleOf, scaleNumber, fixed, offsetsOf, mostSecond, instantAt, countOf, fieldsAnswer, instantAnswer};
 ghost use Rattle.stamp.specs.Stamps.{dayBegins, begins, minuteOf, inDay, inMonth, since, labelAt, inRange, timeAnswer, stampAnswer};
 use answer::Refusal;
 use leap::Table;
@@ -78,6 +78,18 @@ impl Scale {
             return Scale::Tdt;
         }
         Scale::Gps
+    }
+
+    // Its number in document 01.
+    pub fn number(self) -> u32
+        ensures { λ r. ⌜ r ≡ scaleNumber self ⌝ }
+    {
+        match self {
+            Scale::Utc => 0,
+            Scale::Tai => 1,
+            Scale::Tdt => 2,
+            Scale::Gps => 3,
+        }
     }
 
     pub fn fixed(self) -> i64
