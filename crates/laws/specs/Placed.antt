@@ -1,4 +1,5 @@
 -- Lists placed in lists: at the front, or from a place on; what they do not cover stays.
+-- To use: cite them in a contract on a lent buffer; proofs/Placed.antt has their lengths and elements.
 -- Assumes nothing.
 use mathlib.Core.List.{List, _++_}
 use Prim.Native.Nat.{ℕ, _+_}
