@@ -1,13 +1,13 @@
 -- What a double's bit pattern says of its size num / den: the digits, times 2 to the exponent's field less one, in units of 2 ^ -1074.
 -- Assumes nothing.
-use mathlib.Core.Path.{_≡_, ap, _∙_}
+use mathlib.Core.Path.{_≡_, sym, ap, _∙_}
 use mathlib.Core.Bool.{Bool, true, false, cond, _&&_}
 use Prim.Native.Nat.{ℕ, zero, suc, _+_, _-_, _*_, _/_, _%_, _^_, _≤_, _<_}
-use native.Mathlib.Nat.{mod-lt, add-comm, lt-irrefl, div-lt-iff-lt-mul, le-of-suc-le-suc}
+use native.Mathlib.Nat.{mod-lt, add-comm, mul-assoc, mul-right-comm, eq-of-mul-eq-mul-right, lt-irrefl, div-lt-iff-lt-mul, le-of-suc-le-suc}
 use native.Mathlib.Omega.{arith}
 use lib.IntN.{pos}
 use lib.Dec.{T, leb, ltb, eqb, ltb→lt, eqb→eq}
-use lib.Pow.{pow-pos}
+use lib.Pow.{pow-pos, pow-add}
 use lib.Ieee.{Float, nan, inf, fin, binary64, up, down, odd, ofFields, ofBits, le, lt, eq}
 use lib.Ieee.Digits.{Equals, odd-val}
 use lib.Ieee.Fits.{and-l, and-r, down-pos}
@@ -51,6 +51,22 @@ fields s (suc j) t h p = go (eqb (suc j) 2047) (eqb t 0) p
 pub pattern : (b : ℕ) → T (finite (ofBits binary64 b)) → Read (b % 2 ^ 63 / 2 ^ 52) (b % 2 ^ 52) (ofBits binary64 b)
 unfolding ofBits
 pattern b p = fields (leb (2 ^ 63) b) (b % 2 ^ 63 / 2 ^ 52) (b % 2 ^ 52) (mod-lt b (pow-pos 52)) p
+
+-- a field above 0 and at most 1075: the size is the digits with their leading one, over a power of 2
+pub by-digits : (b : ℕ) → T (finite (ofBits binary64 b)) → 0 < b % 2 ^ 63 / 2 ^ 52 → b % 2 ^ 63 / 2 ^ 52 ≤ 1075 → num (ofBits binary64 b) * 2 ^ (1075 - b % 2 ^ 63 / 2 ^ 52) ≡ (b % 2 ^ 52 + 2 ^ 52) * den (ofBits binary64 b)
+by-digits b p l h =
+    let v = ofBits binary64 b in
+    let x = b % 2 ^ 63 / 2 ^ 52 in
+    let t = 1075 - x in
+    let q = b % 2 ^ 52 + 2 ^ 52 in
+    let r = pattern b p in
+    let joined : t + (x - 1) ≡ 1074 = omega arith in
+    eq-of-mul-eq-mul-right (2 ^ (x - 1)) (pow-pos (x - 1)) (num v * 2 ^ t) (q * den v)
+    (mul-assoc (num v) (2 ^ t) (2 ^ (x - 1))
+    ∙ ap (λ (z : ℕ). num v * z) (sym (pow-add 2 t (x - 1)) ∙ ap (λ (z : ℕ). 2 ^ z) joined)
+    ∙ r .value
+    ∙ ap (λ (z : ℕ). z * 2 ^ (x - 1) * den v) (r .lead l)
+    ∙ mul-right-comm q (2 ^ (x - 1)) (den v))
 
 -- ---- at least 0 and below 1
 

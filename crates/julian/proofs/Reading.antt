@@ -10,7 +10,7 @@ use lib.Ieee.{Float, binary64, ofBits}
 use lib.Ieee.Nearest.{div-same}
 use lib.Ieee.Positive.{num, den, den-pos}
 use Rattle.julian.specs.Fraction.{day, isFraction, microsOf}
-use Rattle.julian.proofs.Pattern.{Read, pattern, in-day}
+use Rattle.julian.proofs.Pattern.{Read, pattern, by-digits, in-day}
 
 -- ---- the product's leading part: the digits in two halves
 
@@ -92,11 +92,5 @@ module _ (b : ℕ) (h : T (isFraction (ofBits binary64 b))) where
   some g =
       let t = 1035 - x in
       let q = b % 2 ^ 52 + 2 ^ 52 in
-      let joined : t + 40 + (x - 1) ≡ 1074 = omega (arith, field-lt) in
-      let e : num v * 2 ^ (t + 40) * 2 ^ (x - 1) ≡ q * den v * 2 ^ (x - 1) =
-      mul-assoc (num v) (2 ^ (t + 40)) (2 ^ (x - 1))
-      ∙ ap (λ (z : ℕ). num v * z) (sym (pow-add 2 (t + 40) (x - 1)) ∙ ap (λ (z : ℕ). 2 ^ z) joined)
-      ∙ r .value
-      ∙ ap (λ (z : ℕ). z * 2 ^ (x - 1) * den v) (r .lead (omega arith))
-      ∙ mul-right-comm q (2 ^ (x - 1)) (den v) in
-      rounds (num v) (den v) q t (den-pos v) (eq-of-mul-eq-mul-right (2 ^ (x - 1)) (pow-pos (x - 1)) (num v * 2 ^ (t + 40)) (q * den v) e)
+      let scale : 1075 - x ≡ t + 40 = omega (arith, field-lt) in
+      rounds (num v) (den v) q t (den-pos v) (ap (λ (k : ℕ). num v * 2 ^ k) (sym scale) ∙ by-digits b (in-day v h .0) (omega arith) (omega (arith, field-lt)))

@@ -63,15 +63,27 @@ pub fn write_julian(t: Table, instant: i64, scale: u32) -> JulianAnswer
 
 // ---- a pair to an instant
 
-// The remainder by 1 is exact.
+// The bit of one half is set and none below it.
 fn is_midnight(x: f64) -> bool
     ensures { λ r. ⌜ r ≡ isMidnight x ⌝ }
 {
-    let rest = x % 1.0;
-    if rest == 0.5 {
-        return true;
+    if x != x {
+        // Not a number, which has no bits of its own.
+        return false;
     }
-    rest == -0.5
+    let bits = f64::to_bits(x);
+    let field = bits % 9223372036854775808 / 4503599627370496;
+    if field < 1022 {
+        // Below a half.
+        return false;
+    }
+    if 1074 < field {
+        // From 2^52 on there are no halves.
+        return false;
+    }
+    // The double is digits / 2^(1075 - field).
+    let digits = bits % 4503599627370496 + 4503599627370496;
+    digits % (1 << (1075 - field)) == 1 << (1074 - field)
 }
 
 // Minus zero is one.
@@ -151,7 +163,8 @@ pub fn read_julian(t: Table, scale: u32, date: JulianDate) -> InstantAnswer
     if 3 < scale {
         return InstantAnswer::Refused(Refusal::Ask);
     }
-    if !leap::is_accepted(t) {
+    let count = t.count;
+    if !leap::is_accepted_in(count, &t.months, &t.offsets) {
         return InstantAnswer::Refused(Refusal::Table);
     }
     if !is_midnight(date.midnight) {
@@ -168,7 +181,6 @@ pub fn read_julian(t: Table, scale: u32, date: JulianDate) -> InstantAnswer
     if 315569519999999999 < u {
         return InstantAnswer::Refused(Refusal::Range);
     }
-    let count = t.count;
     stamp::instant_in(
         Scale::numbered(scale),
         count,

@@ -1,26 +1,79 @@
--- `julian::is_midnight` meets its contract.
+-- `julian::is_midnight` meets its contract: `proofs/Halves.antt` says what its tests of the bit pattern come to.
 -- Assumes nothing.
-use mathlib.Core.Path.{_≡_, sym, ap, _∙_, subst}
-use mathlib.Core.Bool.{Bool, true, false, _||_}
-use lib.Dec.{T}
-use lib.IntN.{pos, negsuc}
-use lib.Ieee.{Float, fin, binary64, fits, ofBits, rem, eq, neg}
+use mathlib.Core.Path.{_≡_, refl, sym, ap, ap₂, _∙_, subst}
+use mathlib.Core.Bool.{Bool, true, false, not, true≢false}
+use Prim.Native.Nat.{ℕ, _+_, _-_, _*_, _/_, _%_, _^_, _≤_, _<_}
+use native.Mathlib.Nat.{mod-eq-of-lt, one-mul}
+use native.Mathlib.Omega.{arith}
+use lib.Dec.{T, eqb}
+use lib.Pow.{pow-pos, pow-lt}
+use lib.Ieee.{Float, nan, inf, fin, binary64, fits, isNan, ofBits, toBits, ne}
+use lib.Ieee.Bits.{ofBits-toBits}
+use lib.Ieee.Compare.{differs-from-itself, nan-differs}
+use lib.Ieee.Scale.{finite}
+use borrow.Author.Needs.{needs}
 use Rattle.julian.specs.Midnight.{isMidnight}
-use Rattle.julian.proofs.Halves.{half-test}
+use Rattle.julian.proofs.Halves.{low, high, middle}
 use Rattle.julian.proofs.is_midnight.Statement.{statement}
 use Rattle.julian.proofs.is_midnight.Tie as tie
 
-abbrev rest : Float → Float
-rest x = rem binary64 x (ofBits binary64 0x3ff0_0000_0000_0000)
+has-bits : (x : Float) → ne x x ≡ false → T (not (isNan x))
+unfolding isNan
+has-bits nan d = absurd (true≢false (sym nan-differs ∙ d))
+has-bits (inf s) d = tt
+has-bits (fin s m e) d = tt
 
--- the two tests, with 1.0 and 0.5 by their bit patterns
-tested : (x : Float) (a : Bool) → T (fits binary64 x) → eq (rest x) (ofBits binary64 0x3fe0_0000_0000_0000) ≡ a → (a || eq (rest x) (neg (ofBits binary64 0x3fe0_0000_0000_0000))) ≡ isMidnight x
-unfolding ofBits
-tested x a f p = ap (λ (u : Bool). u || eq (rem binary64 x (fin false 1 (pos 0))) (neg (fin false 1 (negsuc 0)))) (sym p) ∙ half-test x f
+-- no infinity and no NaN is a midnight
+only-finite : (x : Float) → (T (finite x) → false ≡ isMidnight x) → false ≡ isMidnight x
+unfolding isMidnight
+only-finite nan k = refl
+only-finite (inf s) k = refl
+only-finite (fin s m e) k = k tt
+
+abbrev bits : Float → ℕ
+bits x = toBits binary64 x
+
+abbrev field : Float → ℕ
+field x = bits x % 2 ^ 63 / 2 ^ 52
+
+-- an infinity's is 2047
+field-finite : (x : Float) → T (not (isNan x)) → field x ≤ 1074 → T (finite x)
+unfolding isNan toBits
+field-finite nan n h = absurd n
+field-finite (inf true) n h = omega arith
+field-finite (inf false) n h = omega arith
+field-finite (fin s m e) n h = tt
+
+module _ (c : tie.Start) where
+  abbrev x : Float
+  x = c .args .x
+
+  -- from the bit pattern back to the double
+  judged : {r : Bool} → (T (finite (ofBits binary64 (bits x))) → r ≡ isMidnight (ofBits binary64 (bits x))) → T (finite x) → r ≡ isMidnight x
+  judged k p =
+      let e = ofBits-toBits binary64 x (subst T (sym (c .good .0 .1)) tt) in
+      k (subst (λ (v : Float). T (finite v)) (sym e) p) ∙ ap isMidnight e
+
+-- 2 ^ k as the machine's shift gives it
+bit : (k : ℕ) → k < 64 → 1 * 2 ^ k % 2 ^ 64 ≡ 2 ^ k
+bit k h = ap (λ (z : ℕ). z % 2 ^ 64) (one-mul (2 ^ k)) ∙ mod-eq-of-lt (pow-lt h)
 
 pub is-midnight-spec : {M : Type 1} → statement M
 is-midnight-spec =
     tie.close
     (tie.spec
-    (λ c. tested (c .before .args .x) true (subst T (sym (c .before .good .0 .1)) tt) (c .if1 .taken))
-    (λ c. tested (c .before .args .x) false (subst T (sym (c .before .good .0 .1)) tt) (c .if1 .left)))
+    (λ c. only-finite (x (c .before)) (λ p. absurd (subst (λ (v : Float). T (finite v)) (differs-from-itself (x (c .before)) (subst T (sym (c .if1 .taken)) tt)) p)))
+    (λ c. has-bits (x (c .before)) (c .if1 .left))
+    (λ c. only-finite (x (c .before .before)) (judged (c .before .before) (λ p. low (bits (x (c .before .before))) p (c .if2 .taken))))
+    (λ c. only-finite (x (c .before .before .before)) (judged (c .before .before .before) (λ p. high (bits (x (c .before .before .before))) p (c .if3 .taken))))
+    (λ c. search needs)
+    (λ c. search needs)
+    (λ c. search needs)
+    (λ c. let k = 1075 - field (x (c .before .before .before)) in omega (arith, bit k (omega (arith, c .before .if2 .left)), pow-pos k))
+    (λ c. search needs)
+    (λ c.
+    let s = c .before .before .before in
+    let f = field (x s) in
+    let l = c .before .if2 .left in
+    ap₂ (λ (d h : ℕ). eqb ((bits (x s) % 2 ^ 52 + 2 ^ 52) % d) h) (bit (1075 - f) (omega arith)) (bit (1074 - f) (omega arith))
+    ∙ judged s (λ p. middle (bits (x s)) p l (c .if3 .left)) (field-finite (x s) (has-bits (x s) (c .before .before .if1 .left)) (c .if3 .left))))

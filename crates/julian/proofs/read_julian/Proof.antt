@@ -24,38 +24,44 @@ use Rattle.julian.proofs.read_julian.Tie as tie
 abbrev left : ℕ → tie.Start → InstantAnswer
 left n c = refusing Refused (drop n (asked (c .args .t1) (c .args .scale) (c .args .date))) (At (instantOf (c .args .t1) (scaleOf (c .args .scale)) (readingOf (c .args .date))))
 
+abbrev known : tie.After-is-accepted-in → tie.Else1
+known c = c .before .before .before .before
+
+abbrev start : tie.Else2 → tie.Start
+start c = known (c .before) .before
+
 module _ {a : InstantAnswer} where
   one : (c : tie.Else1) → a ≡ left 1 (c .before) → a ≡ left 0 (c .before)
   one c e = passed _ (le-leb _ _ (c .if1 .left)) e
 
-  two : (c : tie.Else2) → a ≡ left 2 (c .before .before .before) → a ≡ left 0 (c .before .before .before)
-  two c e = one (c .before .before) (passed _ (holds (c .before .is-accepted .ensures) (c .if2 .left)) e)
+  two : (c : tie.Else2) → a ≡ left 2 (start c) → a ≡ left 0 (start c)
+  two c e = one (known (c .before)) (passed _ (holds (c .before .is-accepted-in .ensures) (c .if2 .left)) e)
 
-  three : (c : tie.Else3) → a ≡ left 3 (c .before .before .before .before .before) → a ≡ left 0 (c .before .before .before .before .before)
+  three : (c : tie.Else3) → a ≡ left 3 (start (c .before .before)) → a ≡ left 0 (start (c .before .before))
   three c e = two (c .before .before) (passed _ (holds (c .before .is-midnight .ensures) (c .if3 .left)) e)
 
-  four : (c : tie.Else4) → a ≡ left 4 (c .before .before .before .before .before .before .before) → a ≡ left 0 (c .before .before .before .before .before .before .before)
+  four : (c : tie.Else4) → a ≡ left 4 (start (c .before .before .before .before)) → a ≡ left 0 (start (c .before .before .before .before))
   four c e = three (c .before .before) (passed _ (holds (c .before .is-fraction .ensures) (c .if4 .left)) e)
 
-  five : (c : tie.Else5) → a ≡ left 5 (c .before .before .before .before .before .before .before .before .before) → a ≡ left 0 (c .before .before .before .before .before .before .before .before .before)
+  five : (c : tie.Else5) → a ≡ left 5 (start (c .before .before .before .before .before .before)) → a ≡ left 0 (start (c .before .before .before .before .before .before))
   five c e = four (c .before .before) (passed _ (holds (c .before .in-years .ensures) (c .if5 .left)) e)
 
 -- after the calls that read both parts
 module _ (c : tie.After-micros-of) where
-  abbrev start : tie.Start
-  start = c .before .before .before .before .before .before .before .before .before .before .before
+  abbrev begun : tie.Start
+  begun = start (c .before .before .before .before .before .before .before .before)
 
   abbrev u : ℕ
   u = 86400000000 * c .before .day-number .result + c .micros-of .result
 
-  u-is : u ≡ microRead (start .args .date)
+  u-is : u ≡ microRead (begun .args .date)
   unfolding microRead
   u-is = omega (arith, c .before .day-number .ensures, c .micros-of .ensures)
 
 -- where only the second is left to be asked
-ended : (c : tie.Else6) {a : InstantAnswer} → a ≡ fieldsAnswer (start (c .before) .args .t1) (scaleOf (start (c .before) .args .scale)) (readingAt uniform (u (c .before))) → a ≡ left 0 (start (c .before))
+ended : (c : tie.Else6) {a : InstantAnswer} → a ≡ fieldsAnswer (begun (c .before) .args .t1) (scaleOf (begun (c .before) .args .scale)) (readingAt uniform (u (c .before))) → a ≡ left 0 (begun (c .before))
 ended c e =
-    let s = start (c .before) .args in
+    let s = begun (c .before) .args in
     let q = u-is (c .before) in
     let h : microRead (s .date) ≤ microOf last = omega (arith, last-micro) in
     five (c .before .before .before)
@@ -69,7 +75,7 @@ read-julian-spec =
     (tie.spec
     (λ c. refused _ _ (lt-leb _ _ (c .if1 .taken)))
     (λ c κs. search needs)
-    (λ c. one (c .before .before) (refused _ _ (fails (c .before .is-accepted .ensures) (c .if2 .taken))))
+    (λ c. one (known (c .before)) (refused _ _ (fails (c .before .is-accepted-in .ensures) (c .if2 .taken))))
     (λ c κs. search needs)
     (λ c. two (c .before .before) (refused _ _ (fails (c .before .is-midnight .ensures) (c .if3 .taken))))
     (λ c κs. search needs)
@@ -81,11 +87,11 @@ read-julian-spec =
     (λ c κs. subst T (sym (holds (c .before .before .before .before .is-fraction .ensures) (c .before .before .before .if4 .left))) tt)
     (λ c. search needs)
     (λ c.
-    let h : microOf last < microRead (start (c .before) .args .date) = omega (arith, u-is (c .before), last-micro) in
+    let h : microOf last < microRead (begun (c .before) .args .date) = omega (arith, u-is (c .before), last-micro) in
     five (c .before .before .before) (refused _ _ (lt-leb _ _ h)))
     (λ c κs. search needs)
     (λ c κs. search needs)
     (λ c κs. search needs)
     (λ c.
     let b = c .before .before .before .before .before in
-    ended (b .before) (c .instant-in .ensures ∙ ap₂ (fieldsAnswer (start (b .before .before) .args .t1)) (b .numbered .ensures) (c .before .reading-at .ensures))))
+    ended (b .before) (c .instant-in .ensures ∙ ap₂ (fieldsAnswer (begun (b .before .before) .args .t1)) (b .numbered .ensures) (c .before .reading-at .ensures))))
