@@ -1,7 +1,7 @@
 // Two-part Julian dates: the pair of doubles that is written for an instant, and the instant that a pair is read as.
 // Between a pair and a stamp stands a microsecond, counted from year 0 on days of 86,400 seconds.
 ghost use mathlib.Core.Path.{_≡_};
-ghost use Prim.Native.Nat.{_≤_};
+ghost use Prim.Native.Nat.{_+_, _/_, _%_, _^_, _≤_};
 ghost use lib.Dec.{T};
 ghost use Rattle.stamp.specs.Labels.{uniform};
 ghost use Rattle.stamp.specs.Stamps.{readingAt};
@@ -63,6 +63,20 @@ pub fn write_julian(t: Table, instant: i64, scale: u32) -> JulianAnswer
 
 // ---- a pair to an instant
 
+// From its bits a double above the smallest is digits * 2^(field - 1075), up to its sign.
+fn field_of(bits: u64) -> u64
+    ensures { λ r. ⌜ r ≡ bits % 2 ^ 63 / 2 ^ 52 ⌝ }
+{
+    bits % 9223372036854775808 / 4503599627370496
+}
+
+// The leading one is not among the bits.
+fn digits_of(bits: u64) -> u64
+    ensures { λ r. ⌜ r ≡ bits % 2 ^ 52 + 2 ^ 52 ⌝ }
+{
+    bits % 4503599627370496 + 4503599627370496
+}
+
 // The bit of one half is set and none below it.
 fn is_midnight(x: f64) -> bool
     ensures { λ r. ⌜ r ≡ isMidnight x ⌝ }
@@ -72,7 +86,7 @@ fn is_midnight(x: f64) -> bool
         return false;
     }
     let bits = f64::to_bits(x);
-    let field = bits % 9223372036854775808 / 4503599627370496;
+    let field = field_of(bits);
     if field < 1022 {
         // Below a half.
         return false;
@@ -81,9 +95,7 @@ fn is_midnight(x: f64) -> bool
         // From 2^52 on there are no halves.
         return false;
     }
-    // The double is digits / 2^(1075 - field).
-    let digits = bits % 4503599627370496 + 4503599627370496;
-    digits % (1 << (1075 - field)) == 1 << (1074 - field)
+    digits_of(bits) % (1 << (1075 - field)) == 1 << (1074 - field)
 }
 
 // Minus zero is one.
@@ -120,13 +132,13 @@ fn micros_of(x: f64) -> u64
     ensures { λ r. ⌜ (r ≡ microsOf x) × (r ≤ 86400000000) ⌝ }
 {
     let bits = f64::to_bits(x);
-    let field = bits % 9223372036854775808 / 4503599627370496;
+    let field = field_of(bits);
     if field < 983 {
         // Below 2^-40 of a day.
         return 0;
     }
-    // The double is digits * 2^(field - 1075), and a day is 10546875 * 2^13 microseconds.
-    let digits = bits % 4503599627370496 + 4503599627370496;
+    // A day is 10546875 * 2^13 microseconds.
+    let digits = digits_of(bits);
     let high = digits / 67108864 * 10546875;
     let low = digits % 67108864 * 10546875 / 67108864;
     // Half microseconds, the rest dropped: the product without its last 26 bits, and then these.

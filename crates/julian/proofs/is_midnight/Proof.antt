@@ -58,22 +58,41 @@ module _ (c : tie.Start) where
 bit : (k : ℕ) → k < 64 → 1 * 2 ^ k % 2 ^ 64 ≡ 2 ^ k
 bit k h = ap (λ (z : ℕ). z % 2 ^ 64) (one-mul (2 ^ k)) ∙ mod-eq-of-lt (pow-lt h)
 
+-- the field and the digits that the code has
+module _ (c : tie.After-field-of) where
+  abbrev start : tie.Start
+  start = c .before .before
+
+  abbrev f : ℕ
+  f = c .field-of .result
+
+  f-is : f ≡ field (x start)
+  f-is = c .field-of .ensures
+
+ended : (c : tie.After-digits-of) → eqb (c .digits-of .result % 2 ^ (1075 - f (c .before .before .before))) (2 ^ (1074 - f (c .before .before .before))) ≡ isMidnight (x (start (c .before .before .before)))
+ended c =
+    let a = c .before .before .before in
+    let b = bits (x (start a)) in
+    let most : field (x (start a)) ≤ 1074 = omega (arith, f-is a, c .before .if3 .left) in
+    let least : 1022 ≤ field (x (start a)) = omega (arith, f-is a, c .before .before .if2 .left) in
+    ap₂ (λ (k d : ℕ). eqb (d % 2 ^ (1075 - k)) (2 ^ (1074 - k))) (f-is a) (c .digits-of .ensures)
+    ∙ judged (start a) (λ p. middle b p least most) (field-finite (x (start a)) (has-bits (x (start a)) (a .before .if1 .left)) most)
+
 pub is-midnight-spec : {M : Type 1} → statement M
 is-midnight-spec =
     tie.close
     (tie.spec
     (λ c. only-finite (x (c .before)) (λ p. absurd (subst (λ (v : Float). T (finite v)) (differs-from-itself (x (c .before)) (subst T (sym (c .if1 .taken)) tt)) p)))
     (λ c. has-bits (x (c .before)) (c .if1 .left))
-    (λ c. only-finite (x (c .before .before)) (judged (c .before .before) (λ p. low (bits (x (c .before .before))) p (c .if2 .taken))))
-    (λ c. only-finite (x (c .before .before .before)) (judged (c .before .before .before) (λ p. high (bits (x (c .before .before .before))) p (c .if3 .taken))))
+    (λ c κs. search needs)
+    (λ c. only-finite (x (start (c .before))) (judged (start (c .before)) (λ p. low (bits (x (start (c .before)))) p (omega (arith, f-is (c .before), c .if2 .taken)))))
+    (λ c. only-finite (x (start (c .before .before))) (judged (start (c .before .before)) (λ p. high (bits (x (start (c .before .before)))) p (omega (arith, f-is (c .before .before), c .if3 .taken)))))
+    (λ c κs. search needs)
     (λ c. search needs)
     (λ c. search needs)
-    (λ c. search needs)
-    (λ c. let k = 1075 - field (x (c .before .before .before)) in omega (arith, bit k (omega (arith, c .before .if2 .left)), pow-pos k))
+    (λ c. let k = 1075 - f (c .before .before .before) in omega (arith, bit k (omega (arith, c .before .before .if2 .left)), pow-pos k))
     (λ c. search needs)
     (λ c.
-    let s = c .before .before .before in
-    let f = field (x s) in
-    let l = c .before .if2 .left in
-    ap₂ (λ (d h : ℕ). eqb ((bits (x s) % 2 ^ 52 + 2 ^ 52) % d) h) (bit (1075 - f) (omega arith)) (bit (1074 - f) (omega arith))
-    ∙ judged s (λ p. middle (bits (x s)) p l (c .if3 .left)) (field-finite (x s) (has-bits (x s) (c .before .before .if1 .left)) (c .if3 .left))))
+    let k = f (c .before .before .before) in
+    let l = c .before .before .if2 .left in
+    ap₂ (λ (d h : ℕ). eqb (c .digits-of .result % d) h) (bit (1075 - k) (omega arith)) (bit (1074 - k) (omega arith)) ∙ ended c))

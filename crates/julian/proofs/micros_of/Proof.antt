@@ -1,6 +1,6 @@
 -- `julian::micros_of` meets its contract: `proofs/Reading.antt` says what its arithmetic on the bit pattern comes to.
 -- Assumes nothing.
-use mathlib.Core.Path.{_≡_, sym, ap, _∙_, subst}
+use mathlib.Core.Path.{_≡_, sym, ap, ap₂, _∙_, subst}
 use mathlib.Core.Bool.{not}
 use Prim.Native.Nat.{ℕ, _<_, _≤_, _+_, _-_, _*_, _/_, _%_, _^_}
 use native.Mathlib.Omega.{arith}
@@ -12,7 +12,7 @@ use lib.Ieee.Scale.{finite}
 use borrow.Author.Needs.{needs}
 use Rattle.julian.specs.Fraction.{day, isFraction, microsOf}
 use Rattle.julian.proofs.Pattern.{in-day, day-most}
-use Rattle.julian.proofs.Reading.{field-lt, none, some}
+use Rattle.julian.proofs.Reading.{worked, field-lt, none, some}
 use Rattle.julian.proofs.micros_of.Statement.{statement}
 use Rattle.julian.proofs.micros_of.Tie as tie
 
@@ -40,17 +40,28 @@ module _ (c : tie.Start) where
   answer : {r : ℕ} → r ≡ microsOf (ofBits binary64 b) → (r ≡ microsOf (c .args .x)) × (r ≤ day)
   answer e = let q = e ∙ ap microsOf back in (q, omega (arith, q, day-most (c .args .x) (c .pre)))
 
+-- the field that the code has
+module _ (c : tie.After-field-of) where
+  abbrev f : ℕ
+  f = c .field-of .result
+
+  f-is : f ≡ b (c .before) % 2 ^ 63 / 2 ^ 52
+  f-is = c .field-of .ensures
+
 pub micros-of-spec : {M : Type 1} → statement M
 micros-of-spec =
     tie.close
     (tie.spec
     (λ c. no-nan (c .args .x) (in-day (c .args .x) (c .pre) .0))
-    (λ c. answer (c .before) (none (b (c .before)) (held (c .before)) (c .if1 .taken)))
+    (λ c κs. search needs)
+    (λ c. answer (c .before .before) (none (b (c .before .before)) (held (c .before .before)) (omega (arith, f-is (c .before), c .if1 .taken))))
+    (λ c κs. search needs)
     (λ c. search needs)
     (λ c. search needs)
     (λ c. search needs)
+    (λ c. let i = c .before .before in omega (arith, f-is i, field-lt (b (i .before)) (held (i .before))))
     (λ c. search needs)
-    (λ c. omega (arith, field-lt (b (c .before)) (held (c .before))))
-    (λ c. search needs)
-    (λ c. record { fits = small (b (c .before) % 2 ^ 52 + 2 ^ 52) (1035 - b (c .before) % 2 ^ 63 / 2 ^ 52) (omega arith) })
-    (λ c. answer (c .before) (some (b (c .before)) (held (c .before)) (c .if1 .left))))
+    (λ c. record { fits = small (c .digits-of .result) (1035 - f (c .before .before)) (omega (arith, c .digits-of .ensures)) })
+    (λ c.
+    let i = c .before .before in
+    answer (i .before) (ap₂ (λ (q k : ℕ). worked q (1035 - k)) (c .digits-of .ensures) (f-is i) ∙ some (b (i .before)) (held (i .before)) (omega (arith, f-is i, c .before .if1 .left)))))
