@@ -44,7 +44,7 @@ uint32_t mundreff_bulletin_c(uint64_t *count, uint32_t months[64], int32_t offse
    Refusals: 9 10 11 12, whichever comes first from the left. */
 uint32_t mundreff_read_block(const uint8_t *block, size_t size, uint64_t *place, uint64_t *count, uint32_t months[64], int32_t offsets[64]);
 
-/* Writes a table as a block, and gives its length: 138 bytes are always enough.
+/* Writes a table as a block, and gives its length: 192 bytes are always enough.
    Refusals: 11 1. */
 uint32_t mundreff_write_block(uint64_t count, const uint32_t months[64], const int32_t offsets[64], uint8_t *out, size_t room, uint64_t *length);
 

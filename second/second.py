@@ -8,6 +8,7 @@ below is a section of document 01; the last two are the programs.
 
     second.py              answers the lines of the program `calls` (stdin to stdout)
     second.py ticks        prints the listing of the program `ticks`
+    second.py listings     prints the listings of the program `listings`
     second.py bulletin     compares Bulletin C's table with the machine's own leap-second list
 
 Here all days are counted from 1972-01-01, which is day 0, and all months from
@@ -568,6 +569,15 @@ def read_line_of_ticks(descriptor):
     return bytes(line)
 
 
+def program_listings(stream, output):
+    """Inputs of `ticks`, each but perhaps the last with a `%` and a line end after it."""
+    inputs = stream.read().split(b'%')
+    for number, given in enumerate(inputs):
+        given = given[1:] if number > 0 else given
+        if given or number + 1 < len(inputs):
+            output.write(listing((given.split(b'\n') + [b''] * 3)[:3]) + b'%\n')
+
+
 def program_ticks(descriptor, output):
     """Nothing past the third line is read; a line that is too long is the last one read."""
     lines = []
@@ -840,10 +850,12 @@ def main(words):
         program_calls(sys.stdin.buffer, sys.stdout.buffer)
     elif words == ['ticks']:
         program_ticks(sys.stdin.fileno(), sys.stdout.buffer)
+    elif words == ['listings']:
+        program_listings(sys.stdin.buffer, sys.stdout.buffer)
     elif words == ['bulletin']:
         return 0 if program_bulletin(sys.stdout) else 1
     else:
-        print('usage: second.py [ticks | bulletin]', file=sys.stderr)
+        print('usage: second.py [ticks | listings | bulletin]', file=sys.stderr)
         return 2
     return 0
 
