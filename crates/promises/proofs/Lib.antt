@@ -1,6 +1,7 @@
 pub mod Handed
 pub mod Settled
 pub mod Refuses
+pub mod Stamps
 pub mod Texts
 pub mod Stored
 pub mod Ticks

@@ -1,6 +1,7 @@
 pub mod Answers
 pub mod Settled
 pub mod Refused
+pub mod Stamps
 pub mod Text
 pub mod Blocks
 pub mod Clock

@@ -1,13 +1,15 @@
 -- Each call's contract settles everything: two results that it allows on one input are equal, with every byte of a lent buffer afterwards.
--- Each line has the very definition that the call's contract cites.
+-- Each line repeats the `ensures` of its call, over the very definitions; a reader can hold one against the other.
 -- Assumes nothing.
 use mathlib.Core.Path.{_≡_}
 use mathlib.Core.List.{List}
 use Prim.Native.Nat.{ℕ}
 use lib.IntN.{ℤ}
+use lib.Ieee.{Float}
 use Rattle.answer.specs.declared.Written.{Written}
 use Rattle.answer.specs.Buffers.{written, bufferAfter}
 use Rattle.leap.specs.declared.Table.{Table}
+use Rattle.leap.specs.Leap.{bulletinC}
 use Rattle.stamp.specs.declared.Label.{Label}
 use Rattle.stamp.specs.declared.Reading.{Reading}
 use Rattle.stamp.specs.declared.InstantAnswer.{InstantAnswer}
@@ -18,13 +20,15 @@ use Rattle.clock.specs.declared.TickAnswer.{TickAnswer}
 use Rattle.clock.specs.Clock.{startAnswer, tickAnswer}
 use Rattle.block.specs.declared.BlockRead.{BlockRead}
 use Rattle.block.specs.Blocks.{blockOf}
-use Rattle.block.specs.Reading.{readBlock}
+use Rattle.block.specs.Reading.{answered, readBlock}
 use Rattle.block.specs.Promise.{tests}
 use Rattle.text.specs.declared.TextAnswer.{TextAnswer}
 use Rattle.text.specs.Text.{textAnswer, writeAnswer, bufferThen}
 use Rattle.julian.specs.declared.JulianAnswer.{JulianAnswer}
 use Rattle.julian.specs.declared.JulianDate.{JulianDate}
 use Rattle.julian.specs.Dates.{julianAnswer, dateAnswer}
+use Rattle.mundreff.specs.Answers.{writtenResults, instantResults, stampResults, textResults, tickResults, julianResults}
+use Rattle.mundreff.specs.Calls.{labelFrom, scaleFrom, readingFrom, pair, blockWritten, blockAfter}
 
 -- at most one value is allowed
 abbrev pub AtMostOne : {A : Type 0} → (A → Type 0) → Type 0
@@ -33,6 +37,10 @@ AtMostOne {A} allowed = (a b : A) → allowed a → allowed b → a ≡ b
 -- a writer's answer, with its lent buffer afterwards
 abbrev pub Wrote : Type 0
 Wrote = Written × List ℕ
+
+-- the same in C: the number that is returned, the length and the buffer
+abbrev pub WroteInC : Type 0
+WroteInC = (ℕ × ℕ) × List ℕ
 
 pub record Settled : Type 0 where
   pub read-block : (block : List ℕ) → AtMostOne (λ (r : BlockRead). r ≡ readBlock block)
@@ -45,3 +53,18 @@ pub record Settled : Type 0 where
   pub read-julian : (t : Table) (scale : ℕ) (date : JulianDate) → AtMostOne (λ (a : InstantAnswer). a ≡ dateAnswer t scale date)
   pub start : (t : Table) → AtMostOne (λ (a : TickAnswer). a ≡ startAnswer t)
   pub tick : (t : Table) (l : Label) → AtMostOne (λ (a : TickAnswer). a ≡ tickAnswer t l)
+  pub bulletin-c : AtMostOne (λ (t : Table). t ≡ bulletinC)
+
+-- the calls of the C interface: the number that each returns, and everything that it writes
+pub record SettledInC : Type 0 where
+  pub bulletin-c : AtMostOne (λ (r : ℕ × Table). (r .0 ≡ 0) × (r .1 ≡ bulletinC))
+  pub read-block : (block : List ℕ) → AtMostOne (λ (r : ℕ × ℕ × Table). r ≡ answered (readBlock block))
+  pub write-block : (t : Table) (buffer : List ℕ) → AtMostOne (λ (r : WroteInC). (r .0 ≡ writtenResults (blockWritten t buffer)) × (r .1 ≡ blockAfter t buffer))
+  pub instant-of : (t : Table) (stamp : List ℕ) → AtMostOne (λ (r : ℕ × ℤ). r ≡ instantResults (instantAnswer t (scaleFrom stamp) (readingFrom stamp)))
+  pub stamp-of : (t : Table) (instant : ℤ) (scale : ℕ) → AtMostOne (λ (r : ℕ × List ℕ). r ≡ stampResults (stampAnswer t instant scale))
+  pub read-text : (t : Table) (scale : ℕ) (text : List ℕ) → AtMostOne (λ (r : ℕ × ℤ × List ℕ). r ≡ textResults (textAnswer t scale text))
+  pub write-text : (t : Table) (instant : ℤ) (picture scale digits : ℕ) (buffer : List ℕ) → AtMostOne (λ (r : WroteInC). (r .0 ≡ writtenResults (writeAnswer t instant picture scale digits buffer)) × (r .1 ≡ bufferThen t instant picture scale digits buffer))
+  pub write-julian : (t : Table) (instant : ℤ) (scale : ℕ) → AtMostOne (λ (r : ℕ × Float × Float). r ≡ julianResults (julianAnswer t instant scale))
+  pub read-julian : (t : Table) (scale : ℕ) (midnight fraction : Float) → AtMostOne (λ (r : ℕ × ℤ). r ≡ instantResults (dateAnswer t scale (pair midnight fraction)))
+  pub start : (t : Table) → AtMostOne (λ (r : ℕ × List ℕ). r ≡ tickResults (startAnswer t))
+  pub tick : (t : Table) (label : List ℕ) → AtMostOne (λ (r : ℕ × List ℕ). r ≡ tickResults (tickAnswer t (labelFrom 0 label)))

@@ -1,0 +1,7 @@
+-- Stamps and instants, by the theorem of the crate `stamp`.
+-- Assumes nothing.
+use Rattle.stamp.proofs.Undone.{undo}
+use Rattle.promises.specs.Stamps.{StampsAndInstants}
+
+pub stamps-and-instants : StampsAndInstants
+stamps-and-instants = undo
