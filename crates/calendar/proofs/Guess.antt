@@ -6,8 +6,10 @@ use Prim.Native.Nat.{ℕ, _+_, _-_, _*_, _/_, _%_, _≤_, _<_}
 use native.Mathlib.Omega.{arith}
 use lib.Dec.{T, leb, leb→le}
 use Rattle.laws.proofs.Tables.{each, each-left, each-right, sum-at}
-use Rattle.calendar.specs.Calendar.{leapYear, monthLength, daysBefore, monthOfDay}
-use Rattle.calendar.proofs.Laws.{days-split, days-most, days-next, month-is}
+use Rattle.months.specs.Months.{leapYear, monthLength, daysBefore}
+use Rattle.calendar.specs.Days.{monthOfDay}
+use Rattle.months.proofs.Laws.{days-split, days-most, days-next}
+use Rattle.calendar.proofs.Days.{month-is}
 
 -- a month begins within three days of where months of mean length would have it
 abbrev nearby : ℕ → ℕ → Bool

@@ -1,5 +1,3 @@
-pub mod Rule
-pub mod Laws
+pub mod Days
 pub mod Guess
 pub mod Years
-pub mod Split

@@ -11,9 +11,11 @@ use Rattle.laws.proofs.Branches.{cond-yes}
 use Rattle.laws.proofs.Cases.{by-order, both, join}
 use Rattle.calendar.specs.declared.MonthDay.{MonthDay}
 use Rattle.calendar.specs.declared.YearDate.the-variants.{On, Nothing}
-use Rattle.calendar.specs.Calendar.{leapYear, monthLength, daysBefore, monthOfDay, dayOfYear, yearLength}
+use Rattle.months.specs.Months.{leapYear, monthLength, daysBefore}
+use Rattle.calendar.specs.Days.{monthOfDay, dayOfYear, yearLength}
 use Rattle.calendar.specs.Dates.{monthDay, likeYear, inYear, dateInYear}
-use Rattle.calendar.proofs.Laws.{days-next, days-mono, days-most, in-month, month-is}
+use Rattle.months.proofs.Laws.{days-next, days-mono, days-most}
+use Rattle.calendar.proofs.Days.{in-month, month-is}
 
 -- ---- the year that a year is like
 

@@ -3,7 +3,8 @@
 use mathlib.Core.Bool.{cond, _&&_}
 use Prim.Native.Nat.{ℕ, _+_, _-_, _*_, _%_}
 use lib.Dec.{leb}
-use Rattle.calendar.specs.Calendar.{leapYear, monthLength, daysBefore, monthOfDay, yearLength}
+use Rattle.months.specs.Months.{leapYear, monthLength, daysBefore}
+use Rattle.calendar.specs.Days.{monthOfDay, yearLength}
 use Rattle.calendar.specs.declared.Span.{Span}
 use Rattle.calendar.specs.declared.MonthDay.{MonthDay}
 use Rattle.calendar.specs.declared.YearDate.{YearDate}

@@ -1,2 +1,2 @@
-pub mod Calendar
+pub mod Days
 pub mod Dates

@@ -1,9 +1,8 @@
 // The Gregorian calendar in months and days, both counted from January of year 0.
-// Dates become days and days become dates; each way reads the table of 4,800 months once.
-mod table;
-
+// Dates become days and days become dates; each way asks `months` once, and so reads its table once.
 ghost use mathlib.Core.Path.{_≡_};
-ghost use Rattle.calendar.specs.Calendar.{leapYear, monthLength, daysBefore, dayOfYear};
+ghost use Rattle.months.specs.Months.{leapYear, monthLength};
+ghost use Rattle.calendar.specs.Days.{dayOfYear};
 ghost use Rattle.calendar.specs.Dates.{monthSpan, spanOfDay, monthDay, likeYear, dateInYear};
 
 // A month: its number, the days before it, and its own days.
@@ -54,19 +53,12 @@ pub fn month_length(m: u32) -> u32
     COMMON[k]
 }
 
-// The days before a month of any year.
-pub fn days_before(m: u32) -> u64
-    ensures { λ r. ⌜ r ≡ daysBefore m ⌝ }
-{
-    (m / 4800) as u64 * 146097 + table::entry((m % 4800) as usize)
-}
-
 pub fn month(m: u32) -> Span
     ensures { λ r. ⌜ r ≡ monthSpan m ⌝ }
 {
     Span {
         number: m,
-        start: days_before(m),
+        start: months::days_before(m),
         length: month_length(m),
     }
 }
@@ -80,7 +72,7 @@ pub fn month_of_day(day: u32) -> Span
 {
     let d = day as u64;
     let next = ((d + 3) * 4800 / 146097) as u32;
-    let start = days_before(next);
+    let start = months::days_before(next);
     if start <= d {
         return Span {
             number: next,
@@ -124,7 +116,7 @@ pub fn day_of_year(m: u32, day: u32) -> u64
     ensures { λ r. ⌜ r ≡ dayOfYear m day ⌝ }
 {
     let year = like_year(m / 12);
-    days_before(12 * year + m % 12) - (366 * year) as u64 + day as u64
+    months::days_before(12 * year + m % 12) - (366 * year) as u64 + day as u64
 }
 
 // The month and the day that a day of a year has, each counted from 1.

@@ -8,8 +8,8 @@ use borrow.Author.Tests.{eq-eqb, eqb-true}
 use Rattle.laws.proofs.Cases.{by-test, and-l, and-r}
 use Rattle.laws.proofs.Difference.{up, down}
 use Rattle.answer.specs.declared.Refusal.the-variants.{Range as RANGE}
-use Rattle.calendar.specs.Calendar.{monthLength, daysBefore}
-use Rattle.calendar.proofs.Laws.{days-next, length-least}
+use Rattle.months.specs.Months.{monthLength, daysBefore}
+use Rattle.months.proofs.Laws.{days-next, length-least}
 use Rattle.stamp.specs.declared.Label.{Label}
 use Rattle.stamp.specs.Labels.{Offsets, label, monthOf, lastMinute, inLastMinute, minuteIn, minuteLength, secondOf}
 use Rattle.stamp.proofs.Turn.{Steps, turn, minute-range}

@@ -13,8 +13,8 @@ use Rattle.laws.proofs.Cases.{and-l, join}
 use Rattle.laws.proofs.Difference.{up, down, sum-is, eq-from, leZ-true}
 use Rattle.answer.specs.declared.Refusal.the-variants.{Ask as ASK, Table as TABLE, Range as RANGE}
 use Rattle.answer.proofs.Orders.{none-refused}
-use Rattle.calendar.specs.Calendar.{monthLength, daysBefore}
-use Rattle.calendar.proofs.Laws.{days-next, length-least}
+use Rattle.months.specs.Months.{monthLength, daysBefore}
+use Rattle.months.proofs.Laws.{days-next, length-least}
 use Rattle.leap.specs.declared.Table.{Table}
 use Rattle.leap.specs.Leap.{accepted, offsetAt}
 use Rattle.leap.proofs.Facts.{Accepted, accepted-to}

@@ -6,7 +6,7 @@ use Prim.Native.Nat.{ℕ, zero, suc, _+_}
 use lib.Dec.{ltb}
 use Rattle.answer.specs.declared.Refusal.the-variants.{Range as RANGE, Table as TABLE}
 use Rattle.answer.specs.Refusals.{refusing}
-use Rattle.calendar.specs.Calendar.{monthLength}
+use Rattle.months.specs.Months.{monthLength}
 use Rattle.leap.specs.declared.Table.{Table}
 use Rattle.leap.specs.Leap.{accepted, offsetAt}
 use Rattle.stamp.specs.declared.Label.{Label}

@@ -2,7 +2,7 @@
 // The tick is the rule by cases and goes through no instant; that it keeps step with the instants is `Runs` of specs/.
 ghost use mathlib.Core.Path.{_≡_};
 ghost use Prim.Native.Nat.{_≤_, _<_};
-ghost use Rattle.calendar.specs.Calendar.{monthLength};
+ghost use Rattle.months.specs.Months.{monthLength};
 ghost use Rattle.leap.specs.Leap.{tabled, offsetAt};
 ghost use Rattle.stamp.specs.Labels.{monthOf, minuteLength};
 ghost use Rattle.clock.specs.Clock.{shown, next, labelAnswer, startAnswer, tickAnswer};

@@ -9,8 +9,9 @@ use borrow.Author.Tests.{eqb-true}
 use lib.IntN.{ℤ, pos, _+ℤ_}
 use Rattle.laws.proofs.Cases.{pick, by-order, and-l, and-r, join}
 use Rattle.laws.proofs.Difference.{up, down, sum-is, eq-from}
-use Rattle.calendar.specs.Calendar.{daysBefore, monthLength}
-use Rattle.calendar.proofs.Laws.{days-1972, days-next, days-mono, length-least, one-month}
+use Rattle.months.specs.Months.{daysBefore, monthLength}
+use Rattle.months.proofs.Laws.{days-1972, days-next, days-mono, length-least}
+use Rattle.calendar.proofs.Days.{one-month}
 use Rattle.answer.specs.declared.Refusal.the-variants.{NoSecond as NOSECOND}
 use Rattle.answer.proofs.Orders.{none-refused}
 use Rattle.leap.specs.declared.Table.{Table}

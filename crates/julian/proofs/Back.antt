@@ -9,7 +9,7 @@ use lib.Dec.{T, leb}
 use lib.IntN.{ℤ}
 use borrow.Author.Tests.{le-leb, leb-true}
 use Rattle.laws.proofs.Cases.{pick, and-l, and-r, join}
-use Rattle.calendar.proofs.Laws.{days-1972, days-next, days-mono}
+use Rattle.months.proofs.Laws.{days-1972, days-next, days-mono}
 use Rattle.answer.specs.declared.Refusal.{Refusal}
 use Rattle.answer.specs.declared.Refusal.the-variants.{Ask as ASK, Table as TABLE, NoSecond as NOSECOND}
 use Rattle.answer.proofs.Orders.{passed, none-refused, was-passed}

@@ -4,8 +4,10 @@ use mathlib.Core.Path.{_≡_, refl, sym, ap, ap₂, _∙_}
 use Prim.Native.Nat.{ℕ, _+_, _-_, _*_, _/_, _%_, _≤_, _<_}
 use native.Mathlib.Omega.{arith}
 use Rattle.laws.proofs.Cases.{by-order}
-use Rattle.calendar.specs.Calendar.{daysBefore, monthLength, monthOfDay}
-use Rattle.calendar.proofs.Laws.{days-1972, days-next, days-mono, length-most, in-month}
+use Rattle.months.specs.Months.{daysBefore, monthLength}
+use Rattle.calendar.specs.Days.{monthOfDay}
+use Rattle.months.proofs.Laws.{days-1972, days-next, days-mono, length-most}
+use Rattle.calendar.proofs.Days.{in-month}
 use Rattle.stamp.specs.declared.Label.{Label}
 use Rattle.stamp.specs.declared.Reading.{Reading}
 use Rattle.stamp.specs.Labels.{uniform, label, monthOf, secondOf}

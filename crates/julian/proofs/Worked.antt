@@ -10,7 +10,7 @@ use lib.Ieee.{ofBits, ofInt, div, add, lt, eq, le}
 use Rattle.laws.proofs.Cases.{join}
 use Rattle.answer.specs.declared.Refusal.the-variants.{Ask as ASK, Table as TABLE}
 use Rattle.answer.proofs.Orders.{none-refused}
-use Rattle.calendar.specs.Calendar.{leapYear, monthLength, daysBefore}
+use Rattle.months.specs.Months.{leapYear, monthLength, daysBefore}
 use Rattle.leap.specs.Leap.{accepted, bulletinC}
 use Rattle.stamp.specs.declared.InstantAnswer.the-variants.{At, Refused}
 use Rattle.stamp.specs.declared.StampAnswer.the-variants.{Stamped}

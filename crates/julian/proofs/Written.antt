@@ -8,7 +8,7 @@ use native.Mathlib.Omega.{arith}
 use lib.Dec.{leb}
 use lib.IntN.{ℤ}
 use Rattle.laws.proofs.Cases.{and-l, and-r}
-use Rattle.calendar.proofs.Laws.{length-most, days-most}
+use Rattle.months.proofs.Laws.{length-most, days-most}
 use Rattle.answer.specs.declared.Refusal.{Refusal}
 use Rattle.answer.specs.declared.Refusal.the-variants.{Ask as ASK, Table as TABLE, Range as RANGE}
 use Rattle.answer.proofs.Orders.{none-refused, was-passed}

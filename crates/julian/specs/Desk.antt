@@ -6,7 +6,7 @@ use Prim.Native.Nat.{_+_}
 use lib.IntN.{pos, negsuc}
 use lib.Ieee.{fin, binary64, ofBits}
 use Rattle.leap.specs.Leap.{bulletinC}
-use Rattle.calendar.specs.Calendar.{daysBefore}
+use Rattle.months.specs.Months.{daysBefore}
 use Rattle.julian.specs.declared.JulianAnswer.the-variants.{Dated}
 use Rattle.julian.specs.Fraction.{fractionOf, isFraction, microsOf}
 use Rattle.julian.specs.Midnight.{midnightOf, isMidnight, firstMidnight, lastMidnight}

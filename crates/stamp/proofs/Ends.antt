@@ -9,8 +9,8 @@ use lib.Signed.{leZ, _≤ℤ_, _<ℤ_}
 use Rattle.laws.proofs.Cases.{and-l, and-r}
 use Rattle.laws.proofs.Difference.{up, down, sum-is, diff-is, leZ-true, le-from, lt-from}
 use Rattle.laws.proofs.Machine.{one-side, natAbs-is, times-is}
-use Rattle.calendar.specs.Calendar.{leapYear, monthLength, daysBefore}
-use Rattle.calendar.proofs.Laws.{days-split, days-next, days-1972}
+use Rattle.months.specs.Months.{leapYear, monthLength, daysBefore}
+use Rattle.months.proofs.Laws.{days-split, days-next, days-1972}
 use Rattle.leap.specs.declared.Table.{Table}
 use Rattle.leap.proofs.Facts.{Accepted}
 use Rattle.stamp.specs.declared.Scale.{Scale}

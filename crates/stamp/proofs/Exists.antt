@@ -10,8 +10,8 @@ use lib.Dec.{eqb}
 use lib.IntN.{ℤ, pos}
 use Rattle.laws.proofs.Cases.{by-order}
 use Rattle.laws.proofs.Difference.{up, down}
-use Rattle.calendar.specs.Calendar.{daysBefore, monthLength}
-use Rattle.calendar.proofs.Laws.{days-next, length-least}
+use Rattle.months.specs.Months.{daysBefore, monthLength}
+use Rattle.months.proofs.Laws.{days-next, length-least}
 use Rattle.stamp.specs.declared.Label.{Label}
 use Rattle.stamp.specs.Labels.{Offsets, uniform, label, lastMinute, monthOf, minuteIn, minuteLength, secondOf}
 use Rattle.stamp.specs.Stamps.{minuteOf, dayOf, inDay, inMonth, since}

@@ -5,7 +5,7 @@ use mathlib.Core.Bool.{true, false}
 use Prim.Native.Nat.{ℕ, _-_, _≤_, _<_}
 use native.Mathlib.Omega.{arith}
 use borrow.Author.Tests.{leb-true, ltb-true, lt-ltb, le-ltb}
-use Rattle.calendar.specs.Calendar.{monthLength}
+use Rattle.months.specs.Months.{monthLength}
 use Rattle.laws.proofs.Cases.{and-l, and-r}
 use Rattle.stamp.specs.declared.Scale.{Scale}
 use Rattle.stamp.specs.declared.Scale.the-variants.{Utc, Tai, Tdt, Gps}

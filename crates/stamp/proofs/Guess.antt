@@ -8,8 +8,9 @@ use lib.IntN.{ℤ, pos}
 use lib.Signed.{leZ, _≤ℤ_, _<ℤ_}
 use Rattle.laws.proofs.Cases.{by-order, by-test}
 use Rattle.laws.proofs.Difference.{sum-is, integers}
-use Rattle.calendar.specs.Calendar.{daysBefore}
-use Rattle.calendar.proofs.Laws.{days-1972, days-most, days-next, length-least, length-most, in-month}
+use Rattle.months.specs.Months.{daysBefore}
+use Rattle.months.proofs.Laws.{days-1972, days-most, days-next, length-least, length-most}
+use Rattle.calendar.proofs.Days.{in-month}
 use Rattle.stamp.specs.Labels.{Offsets}
 use Rattle.stamp.specs.Stamps.{begins, inDay, inMonth, dayOf, since, labelAt}
 use Rattle.stamp.proofs.Turn.{Steps}

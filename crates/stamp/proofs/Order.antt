@@ -8,7 +8,7 @@ use native.Mathlib.Omega.{arith}
 use lib.ListN.{length, getD}
 use Rattle.laws.proofs.Cases.{lt-cases, by-order}
 use Rattle.laws.proofs.Difference.{up, down}
-use Rattle.calendar.specs.Calendar.{daysBefore, monthLength}
+use Rattle.months.specs.Months.{daysBefore, monthLength}
 use Rattle.stamp.specs.declared.Label.{Label}
 use Rattle.stamp.specs.Labels.{Offsets, label, monthOf, secondOf, Less, fields, Before}
 use Rattle.stamp.proofs.Turn.{Steps}

@@ -11,8 +11,10 @@ use lib.Signed.{leZ, _≤ℤ_}
 use Rattle.laws.proofs.Cases.{by-order}
 use Rattle.laws.proofs.Difference.{up, down, sum-is, diff-is, leZ-true, leZ-false, le-from}
 use Rattle.laws.proofs.Machine.{one-side, natAbs-is}
-use Rattle.calendar.specs.Calendar.{daysBefore, monthOfDay}
-use Rattle.calendar.proofs.Laws.{days-next, length-least, in-month}
+use Rattle.months.specs.Months.{daysBefore}
+use Rattle.calendar.specs.Days.{monthOfDay}
+use Rattle.months.proofs.Laws.{days-next, length-least}
+use Rattle.calendar.proofs.Days.{in-month}
 use Rattle.stamp.specs.Labels.{Offsets}
 use Rattle.stamp.specs.Stamps.{begins, monthAt, since}
 use Rattle.stamp.proofs.Turn.{Steps}

@@ -10,8 +10,8 @@ use lib.IntN.{ℤ, pos, negsuc}
 use lib.Signed.{_≤ℤ_}
 use Rattle.laws.proofs.Cases.{and-l, and-r, join, by-order}
 use Rattle.laws.proofs.Difference.{up, down, eq-from, le-leZ}
-use Rattle.calendar.specs.Calendar.{daysBefore}
-use Rattle.calendar.proofs.Laws.{days-1972, days-mono}
+use Rattle.months.specs.Months.{daysBefore}
+use Rattle.months.proofs.Laws.{days-1972, days-mono}
 use Rattle.answer.specs.declared.Refusal.{Refusal}
 use Rattle.answer.specs.declared.Refusal.the-variants.{Ask as ASK, Table as TABLE, Range as RANGE}
 use Rattle.answer.proofs.Orders.{none-refused, was-passed}

@@ -2,7 +2,7 @@
 -- Assumes nothing.
 use mathlib.Core.Path.{refl}
 use Rattle.laws.specs.Tests.{eqZ, allBelow}
-use Rattle.calendar.specs.Calendar.{leapYear, monthLength, daysBefore}
+use Rattle.months.specs.Months.{leapYear, monthLength, daysBefore}
 use Rattle.leap.specs.Leap.{oneApart, placeRight, accepted, lastBegun, offsetAt}
 use Rattle.stamp.specs.Labels.{lastMinute, minuteIn, realYear, realMonth, realDay, realClock, hasSecond, secondOf}
 use Rattle.stamp.specs.Instants.{instantAt, instantAnswer}

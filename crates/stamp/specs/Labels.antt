@@ -11,7 +11,7 @@ use lib.Signed.{ltZ}
 use Rattle.answer.specs.declared.Refusal.{Refusal}
 use Rattle.answer.specs.declared.Refusal.the-variants.{Year as YEAR, Date as DATE, Clock as CLOCK, NoSecond as NOSECOND}
 use Rattle.answer.specs.Refusals.{allPass}
-use Rattle.calendar.specs.Calendar.{monthLength, daysBefore}
+use Rattle.months.specs.Months.{monthLength, daysBefore}
 use Rattle.stamp.specs.declared.Label.{Label}
 use Rattle.stamp.specs.declared.Reading.{Reading}
 

@@ -6,7 +6,7 @@ ghost use Prim.Native.Nat.{_+_, _-_, _*_, _/_, _≤_, _<_, min};
 ghost use lib.IntN.{ℤ, pos, negsuc};
 ghost use lib.Signed.{leZ, _≤ℤ_, _<ℤ_};
 ghost use Rattle.leap.specs.Leap.{tabled, accepted};
-ghost use Rattle.calendar.specs.Calendar.{daysBefore, monthLength};
+ghost use Rattle.months.specs.Months.{daysBefore, monthLength};
 ghost use Rattle.stamp.specs.Labels.{lastMinute, monthOf, minuteIn, realYear, realMonth, dayIn, realClock, secondOf};
 ghost use Rattle.stamp.specs.Instants.{scaleOf, scaleNumber, fixed, offsetsOf, mostSecond, instantAt, countOf, fieldsAnswer, instantAnswer};
 ghost use Rattle.stamp.specs.Stamps.{dayBegins, begins, minuteOf, inDay, inMonth, since, labelAt, inRange, timeAnswer, stampAnswer};

@@ -11,7 +11,7 @@ use Rattle.answer.specs.declared.Refusal.{Refusal}
 use Rattle.answer.specs.declared.Refusal.the-variants.{Range as RANGE, Ask as ASK, Table as TABLE}
 use Rattle.answer.specs.Refusals.{refusing}
 use Rattle.answer.proofs.Orders.{refusing-map}
-use Rattle.calendar.proofs.Laws.{length-most}
+use Rattle.months.proofs.Laws.{length-most}
 use Rattle.leap.specs.declared.Table.{Table}
 use Rattle.leap.specs.Leap.{accepted}
 use Rattle.stamp.specs.declared.Scale.{Scale}

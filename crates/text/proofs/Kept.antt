@@ -14,9 +14,10 @@ use Rattle.answer.specs.declared.Refusal.{Refusal}
 use Rattle.answer.proofs.Orders.{none-refused, was-passed, number-some}
 use Rattle.calendar.specs.declared.YearDate.{YearDate}
 use Rattle.calendar.specs.declared.YearDate.the-variants.{On, Nothing}
-use Rattle.calendar.specs.Calendar.{daysBefore, dayOfYear}
+use Rattle.months.specs.Months.{daysBefore}
+use Rattle.calendar.specs.Days.{dayOfYear}
 use Rattle.calendar.specs.Dates.{dateInYear}
-use Rattle.calendar.proofs.Laws.{length-most, rise}
+use Rattle.months.proofs.Laws.{length-most, rise}
 use Rattle.calendar.proofs.Years.{date-back, day-back}
 use Rattle.leap.specs.declared.Table.{Table}
 use Rattle.stamp.specs.declared.Reading.{Reading}

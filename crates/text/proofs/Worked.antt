@@ -7,7 +7,7 @@ use native.Mathlib.Omega.{arith}
 use lib.IntN.{pos, negℤ}
 use Rattle.laws.specs.Tests.{eqZ, allBelow}
 use Rattle.answer.specs.Buffers.{written, bufferAfter}
-use Rattle.calendar.specs.Calendar.{leapYear, monthLength, daysBefore}
+use Rattle.months.specs.Months.{leapYear, monthLength, daysBefore}
 use Rattle.leap.specs.Leap.{bulletinC, oneApart, placeRight, accepted, lastBegun, offsetAt}
 use Rattle.leap.proofs.BulletinC.{bulletin-accepted}
 use Rattle.stamp.specs.Labels.{lastMinute, minuteIn, realYear, realMonth, realDay, realClock, hasSecond, secondOf}

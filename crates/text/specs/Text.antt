@@ -13,7 +13,7 @@ use Rattle.answer.specs.Buffers.{written, bufferAfter}
 use Rattle.calendar.specs.declared.MonthDay.{MonthDay}
 use Rattle.calendar.specs.declared.YearDate.{YearDate}
 use Rattle.calendar.specs.declared.YearDate.the-variants.{On, Nothing}
-use Rattle.calendar.specs.Calendar.{dayOfYear}
+use Rattle.calendar.specs.Days.{dayOfYear}
 use Rattle.calendar.specs.Dates.{dateInYear}
 use Rattle.leap.specs.declared.Table.{Table}
 use Rattle.leap.specs.Leap.{accepted}

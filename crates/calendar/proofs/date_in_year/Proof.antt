@@ -6,7 +6,7 @@ use borrow.Author.Tests.{le-leb, lt-leb}
 use Rattle.laws.proofs.Branches.{and-no, and-rest, cond-yes, cond-rest}
 use Rattle.laws.proofs.Cases.{join}
 use Rattle.calendar.specs.declared.YearDate.the-variants.{On}
-use Rattle.calendar.specs.Calendar.{yearLength}
+use Rattle.calendar.specs.Days.{yearLength}
 use Rattle.calendar.specs.Dates.{inYear, dateInYear}
 use Rattle.calendar.proofs.Years.{like-most, like-length, like-date}
 use Rattle.calendar.proofs.date_in_year.Statement.{statement}

@@ -1,4 +1,4 @@
-use Rattle.calendar.proofs.Rule.{leap-no, leap-yes, leap-rest}
+use Rattle.months.proofs.Rule.{leap-no, leap-yes, leap-rest}
 use Rattle.calendar.proofs.is_leap.Statement.{statement}
 use Rattle.calendar.proofs.is_leap.Tie as tie
 

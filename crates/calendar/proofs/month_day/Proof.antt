@@ -2,8 +2,9 @@ use mathlib.Core.Path.{refl, ap}
 use native.Mathlib.Omega.{arith}
 use borrow.Author.Needs.{needs}
 use Rattle.calendar.specs.declared.Span.{Span}
-use Rattle.calendar.specs.Calendar.{monthOfDay}
-use Rattle.calendar.proofs.Laws.{in-month, days-next, length-most}
+use Rattle.calendar.specs.Days.{monthOfDay}
+use Rattle.months.proofs.Laws.{days-next, length-most}
+use Rattle.calendar.proofs.Days.{in-month}
 use Rattle.calendar.proofs.month_day.Statement.{statement}
 use Rattle.calendar.proofs.month_day.Tie as tie
 

@@ -1,6 +1,6 @@
 use mathlib.Core.Bool.{true, false}
 use borrow.Author.Needs.{needs}
-use Rattle.calendar.proofs.Rule.{length-is}
+use Rattle.months.proofs.Rule.{length-is}
 use Rattle.calendar.proofs.month_length.Statement.{statement}
 use Rattle.calendar.proofs.month_length.Tie as tie
 

@@ -2,7 +2,7 @@ use mathlib.Core.Path.{_≡_}
 use Prim.Native.Nat.{_-_}
 use native.Mathlib.Omega.{arith}
 use borrow.Author.Needs.{needs}
-use Rattle.calendar.specs.Calendar.{daysBefore}
+use Rattle.months.specs.Months.{daysBefore}
 use Rattle.calendar.proofs.Guess.{guess, guess-high, guessed, guessed-next, start-before}
 use Rattle.calendar.proofs.month_of_day.Statement.{statement}
 use Rattle.calendar.proofs.month_of_day.Tie as tie

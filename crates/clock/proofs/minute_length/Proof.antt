@@ -6,7 +6,7 @@ use borrow.Author.Needs.{needs, sfits-of}
 use borrow.Author.Tests.{eq-eqb, ne-eqb}
 use Rattle.laws.proofs.Branches.{and-no, and-rest, cond-yes, cond-rest}
 use Rattle.laws.proofs.Machine.{read2}
-use Rattle.calendar.specs.Calendar.{monthLength}
+use Rattle.months.specs.Months.{monthLength}
 use Rattle.leap.specs.Leap.{tabled, offsetAt}
 use Rattle.stamp.specs.Labels.{lastMinute, minuteIn, monthOf}
 use Rattle.clock.proofs.minute_length.Statement.{statement}

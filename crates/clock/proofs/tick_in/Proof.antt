@@ -7,7 +7,7 @@ use native.Mathlib.Omega.{arith}
 use borrow.Author.Needs.{needs}
 use Rattle.laws.proofs.Branches.{fails, holds}
 use Rattle.answer.proofs.Orders.{refused, passed}
-use Rattle.calendar.specs.Calendar.{monthLength}
+use Rattle.months.specs.Months.{monthLength}
 use Rattle.leap.specs.Leap.{tabled, offsetAt}
 use Rattle.stamp.specs.Labels.{monthOf, realYear, realMonth, dayIn, realDay, realClock}
 use Rattle.stamp.proofs.Facts.{year-to, month-to, clock-to, second-no, second-yes}

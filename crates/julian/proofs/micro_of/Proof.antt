@@ -4,9 +4,9 @@ use mathlib.Core.Path.{_≡_, ap}
 use Prim.Native.Nat.{_≤_}
 use native.Mathlib.Omega.{arith}
 use borrow.Author.Needs.{needs}
-use Rattle.calendar.specs.Calendar.{daysBefore}
+use Rattle.months.specs.Months.{daysBefore}
 use Rattle.calendar.specs.declared.Span.{Span}
-use Rattle.calendar.proofs.Laws.{days-most}
+use Rattle.months.proofs.Laws.{days-most}
 use Rattle.stamp.specs.Labels.{monthOf, secondOf}
 use Rattle.julian.proofs.micro_of.Statement.{statement}
 use Rattle.julian.proofs.micro_of.Tie as tie

@@ -4,7 +4,8 @@ use mathlib.Core.Path.{_≡_, ap}
 use Prim.Native.Nat.{ℕ, _-_, _*_, _/_, _%_}
 use native.Mathlib.Omega.{arith}
 use borrow.Author.Needs.{needs}
-use Rattle.calendar.specs.Calendar.{daysBefore, monthOfDay}
+use Rattle.months.specs.Months.{daysBefore}
+use Rattle.calendar.specs.Days.{monthOfDay}
 use Rattle.calendar.specs.declared.Span.{Span}
 use Rattle.stamp.specs.declared.Label.{Label}
 use Rattle.julian.proofs.Uniform.{code-rest, code-label}

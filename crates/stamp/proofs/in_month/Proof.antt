@@ -1,7 +1,7 @@
 use mathlib.Core.Path.{_≡_, ap, _∙_}
 use Prim.Native.Nat.{ℕ, _-_, _*_, _/_, min}
 use native.Mathlib.Omega.{arith}
-use Rattle.calendar.proofs.Laws.{length-least, length-most}
+use Rattle.months.proofs.Laws.{length-least, length-most}
 use Rattle.stamp.specs.Stamps.{inDay, inMonth, dayOf}
 use borrow.Author.Needs.{needs}
 use Rattle.stamp.proofs.in_month.Statement.{statement}

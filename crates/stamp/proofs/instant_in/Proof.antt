@@ -12,8 +12,8 @@ use Rattle.laws.proofs.Branches.{fails, holds}
 use Rattle.laws.proofs.Machine.{read1, read2}
 use Rattle.answer.proofs.Orders.{refused, passed}
 use Rattle.calendar.specs.declared.Span.{Span}
-use Rattle.calendar.specs.Calendar.{monthLength}
-use Rattle.calendar.proofs.Laws.{days-most, length-most}
+use Rattle.months.specs.Months.{monthLength}
+use Rattle.months.proofs.Laws.{days-most, length-most}
 use Rattle.leap.specs.Leap.{tabled}
 use Rattle.stamp.specs.declared.InstantAnswer.the-variants.{At}
 use Rattle.stamp.specs.Labels.{minuteIn, minuteLength, monthOf, realYear, realMonth, dayIn, realDay, realClock, secondOf}

@@ -12,8 +12,8 @@ use mir.Syntax.{w32}
 use mir.Val.{SFits, toZ, ofZ}
 use mir.Facts.{toZ-ofZ}
 use Rattle.calendar.specs.declared.Span.{Span}
-use Rattle.calendar.specs.Calendar.{daysBefore, monthLength}
-use Rattle.calendar.proofs.Laws.{days-next, days-most}
+use Rattle.months.specs.Months.{daysBefore, monthLength}
+use Rattle.months.proofs.Laws.{days-next, days-most}
 use Rattle.leap.specs.Leap.{tabled}
 use Rattle.leap.proofs.Facts.{accepted-to}
 use Rattle.stamp.specs.Labels.{Offsets}

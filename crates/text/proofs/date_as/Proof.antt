@@ -2,7 +2,7 @@ use Prim.Native.Nat.{_+_, _*_, _-_}
 use native.Mathlib.Omega.{arith}
 use borrow.Author.Tests.{eq-eqb, ne-eqb}
 use borrow.Author.Needs.{needs}
-use Rattle.calendar.proofs.Laws.{days-most}
+use Rattle.months.proofs.Laws.{days-most}
 use Rattle.text.proofs.date_as.Statement.{statement}
 use Rattle.text.proofs.date_as.Tie as tie
 

@@ -1,11 +1,11 @@
 use Prim.Native.Nat.{_*_, _%_, _<_}
 use mathlib.Core.Path.{_≡_, ap}
 use native.Mathlib.Omega.{arith}
-use Rattle.calendar.specs.Calendar.{monthLength, leapYear, daysBefore}
-use Rattle.calendar.proofs.Laws.{table-at}
+use Rattle.months.specs.Months.{monthLength, leapYear, daysBefore}
+use Rattle.months.proofs.Laws.{table-at}
 use borrow.Author.Needs.{needs}
-use Rattle.calendar.proofs.table.before_block.Statement.{statement}
-use Rattle.calendar.proofs.table.before_block.Tie as tie
+use Rattle.months.proofs.table.before_block.Statement.{statement}
+use Rattle.months.proofs.table.before_block.Tie as tie
 
 mul-result : tie.Need-mul-result
 mul-result c = search needs

@@ -7,8 +7,8 @@ use native.Mathlib.Nat.{add-suc, add-zero}
 use native.Mathlib.Omega.{arith}
 use borrow.Author.Tests.{ne-eqb}
 use lib.ListN.{getD}
-use Rattle.calendar.specs.Calendar.{leapYear, lengths, monthLength, daysBefore}
-use Rattle.calendar.proofs.Rule.{leap-no, leap-yes, leap-rest}
+use Rattle.months.specs.Months.{leapYear, lengths, monthLength, daysBefore}
+use Rattle.months.proofs.Rule.{leap-no, leap-yes, leap-rest}
 
 no-leap : (y : ℕ) → (y % 4 ≡ 0 → ⊥) → leapYear y ≡ false
 no-leap y h = sym (leap-no y h)

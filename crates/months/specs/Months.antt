@@ -1,9 +1,9 @@
--- The Gregorian calendar, counted in months: month 0 is January of year 0, so month m is month m % 12 of year m / 12.
+-- The months of the Gregorian calendar: month 0 is January of year 0, so month m is month m % 12 of year m / 12.
 -- Assumes nothing.
 use mathlib.Core.Bool.{Bool, cond, not, _&&_}
 use mathlib.Core.List.{List, [], _∷_}
-use Prim.Native.Nat.{ℕ, zero, suc, _+_, _-_, _*_, _/_, _%_}
-use lib.Dec.{eqb, ltb}
+use Prim.Native.Nat.{ℕ, zero, suc, _+_, _/_, _%_}
+use lib.Dec.{eqb}
 use lib.ListN.{getD}
 
 abbrev pub divides : ℕ → ℕ → Bool
@@ -25,15 +25,3 @@ monthLength m = getD (lengths (leapYear (m / 12))) (m % 12) 0
 unfoldable pub daysBefore : ℕ → ℕ
 daysBefore zero = 0
 daysBefore (suc m) = daysBefore m + monthLength m
-
--- the month of day d, counted from 1 January of year 0: that of the day before, or the next one where that is over
-unfoldable pub monthOfDay : ℕ → ℕ
-monthOfDay zero = 0
-monthOfDay (suc d) = cond (ltb (suc d) (daysBefore (monthOfDay d + 1))) (monthOfDay d) (monthOfDay d + 1)
-
--- which day of its year day d of month m is; both days are counted from 1
-abbrev pub dayOfYear : ℕ → ℕ → ℕ
-dayOfYear m d = daysBefore m - daysBefore (12 * (m / 12)) + d
-
-abbrev pub yearLength : ℕ → ℕ
-yearLength y = cond (leapYear y) 366 365

@@ -1,11 +1,11 @@
 use Prim.Native.Nat.{_+_, _*_, _/_, _%_}
 use mathlib.Core.Path.{_≡_, _∙_}
 use native.Mathlib.Omega.{arith}
-use Rattle.calendar.specs.Calendar.{daysBefore}
-use Rattle.calendar.proofs.Split.{three, in-first, in-early, in-late}
+use Rattle.months.specs.Months.{daysBefore}
+use Rattle.months.proofs.Split.{three, in-first, in-early, in-late}
 use borrow.Author.Needs.{needs}
-use Rattle.calendar.proofs.table.entry.Statement.{statement}
-use Rattle.calendar.proofs.table.entry.Tie as tie
+use Rattle.months.proofs.table.entry.Statement.{statement}
+use Rattle.months.proofs.table.entry.Tie as tie
 
 sum : (w : tie.After-wide3) → (w .before .before .before .before .wide .result + w .before .before .wide2 .result) + w .wide3 .result ≡ daysBefore (1200 * (w .before .before .before .before .before .before .args .k / 1200)) + daysBefore (w .before .before .before .before .before .before .args .k % 1200)
 sum w =

@@ -3,7 +3,7 @@
 // of few places each: of the month's century, of its block of four years, and of its place in the block.
 ghost use mathlib.Core.Path.{_≡_};
 ghost use Prim.Native.Nat.{_*_, _<_};
-ghost use Rattle.calendar.specs.Calendar.{daysBefore};
+ghost use Rattle.months.specs.Months.{daysBefore};
 
 const DAYS_BEFORE: [u32; 4800] = [
     0,

@@ -1,16 +1,15 @@
--- The calendar's laws: it repeats after 4,800 months, a month has 28 to 31 days, the days before a month rise, and a day falls in one month only.
+-- The months' laws: they repeat after 4,800 months, a month has 28 to 31 days, and the days before a month rise.
 -- Assumes nothing.
 use mathlib.Core.Path.{_≡_, refl, _∙_, ap, sym}
-use mathlib.Core.Bool.{Bool, true, false, cond}
+use mathlib.Core.Bool.{Bool, true, false}
 use mathlib.Core.List.{List}
 use Prim.Native.Nat.{ℕ, zero, suc, _+_, _-_, _*_, _/_, _%_, _≤_, _<_}
 use native.Mathlib.Nat.{add-zero, zero-add, add-suc, suc-add}
 use native.Mathlib.Numerals.{add-one}
 use native.Mathlib.Omega.{arith}
-use lib.Dec.{T, leb, ltb, leb→le}
+use lib.Dec.{T, leb, leb→le}
 use lib.ListN.{length, getD}
-use Rattle.calendar.specs.Calendar.{leapYear, lengths, monthLength, daysBefore, monthOfDay}
-use borrow.Author.Tests.{ltb-true, ltb-false}
+use Rattle.months.specs.Months.{leapYear, lengths, monthLength, daysBefore}
 use Rattle.laws.proofs.Tables.{each, each-left, each-right, at, runs, run-at}
 
 -- a year is a leap year as its place in its cycle of 400 years is, and a month as long as its place in its cycle of 4,800 months
@@ -101,30 +100,6 @@ pub days-mono : (m n : ℕ) → m ≤ n → daysBefore m ≤ daysBefore n
 days-mono m n h =
     let back : m + (n - m) ≡ n = omega arith in
     omega (arith, rise (n - m) m, ap daysBefore back)
-
--- day d falls in month m
-abbrev pub Falls : ℕ → ℕ → Type 0
-Falls d m = (daysBefore m ≤ d) × (d < daysBefore (m + 1))
-
-no-later : (d m n : ℕ) → Falls d m → Falls d n → ¬ (m < n)
-no-later d m n f g h = omega (arith, days-mono (m + 1) n (omega arith))
-
--- a day falls in one month only
-pub one-month : (d m n : ℕ) → Falls d m → Falls d n → m ≡ n
-one-month d m n f g = omega (arith, no-later d m n f g, no-later d n m g f)
-
--- and that is the month which the definition gives it
-next-month : (d m : ℕ) (b : Bool) → ltb (suc d) (daysBefore (m + 1)) ≡ b → Falls d m → Falls (suc d) (cond b m (m + 1))
-next-month d m true e f = omega (arith, ltb-true)
-next-month d m false e f = omega (arith, ltb-false, rise 1 (m + 1))
-
-pub in-month : (d : ℕ) → Falls d (monthOfDay d)
-unfolding monthOfDay daysBefore
-in-month zero = omega (arith, length-least 0)
-in-month (suc d) = next-month d (monthOfDay d) (ltb (suc d) (daysBefore (monthOfDay d + 1))) refl (in-month d)
-
-pub month-is : (d m : ℕ) → Falls d m → m ≡ monthOfDay d
-month-is d m f = one-month d m (monthOfDay d) f (in-month d)
 
 -- ---- three days that everything above counts from
 

@@ -6,7 +6,7 @@ use Prim.Native.Nat.{ℕ, _/_, _%_}
 use borrow.Author.Tests.{eq-eqb, ne-eqb}
 use lib.Dec.{eqb}
 use lib.ListN.{getD}
-use Rattle.calendar.specs.Calendar.{leapYear, lengths, monthLength}
+use Rattle.months.specs.Months.{leapYear, lengths, monthLength}
 
 pub leap-no : (y : ℕ) → (y % 4 ≡ 0 → ⊥) → false ≡ leapYear y
 unfolding leapYear

@@ -1,10 +1,10 @@
 use Prim.Native.Nat.{_*_, _<_}
 use native.Mathlib.Omega.{arith}
-use Rattle.calendar.specs.Calendar.{monthLength, leapYear}
-use Rattle.calendar.proofs.Laws.{table-at}
+use Rattle.months.specs.Months.{monthLength, leapYear}
+use Rattle.months.proofs.Laws.{table-at}
 use borrow.Author.Needs.{needs}
-use Rattle.calendar.proofs.table.before_century.Statement.{statement}
-use Rattle.calendar.proofs.table.before_century.Tie as tie
+use Rattle.months.proofs.table.before_century.Statement.{statement}
+use Rattle.months.proofs.table.before_century.Tie as tie
 
 mul-result : tie.Need-mul-result
 mul-result c = search needs
