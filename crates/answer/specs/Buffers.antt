@@ -10,7 +10,7 @@ use Rattle.answer.specs.declared.Refusal.{Refusal}
 use Rattle.answer.specs.declared.Refusal.the-variants.{Room as ROOM}
 use Rattle.answer.specs.declared.Written.{Written}
 use Rattle.answer.specs.declared.Written.the-variants.{Wrote, Refused}
-use Rattle.answer.specs.Refusals.{refusing}
+use Rattle.answer.specs.Refusals.{number, refusing}
 
 -- a writer's order: its own tests, and last that the bytes fit the buffer
 abbrev pub roomLast : List (Bool × Refusal) → List ℕ → List ℕ → List (Bool × Refusal)
@@ -23,3 +23,8 @@ written tests bytes buffer = refusing Refused (roomLast tests bytes buffer) (Wro
 -- the buffer afterwards: the bytes, and past them its own; after a refusal all its own
 abbrev pub bufferAfter : List (Bool × Refusal) → List ℕ → List ℕ → List ℕ
 bufferAfter tests bytes buffer = refusing (λ why. buffer) (roomLast tests bytes buffer) (over bytes buffer)
+
+-- an answer in the scope's numbers: that of the refusal, 0 on success, and the length, zero on a refusal
+abbrev pub writtenResults : Written → ℕ × ℕ
+writtenResults (Wrote n) = (0, n)
+writtenResults (Refused why) = (number why, 0)

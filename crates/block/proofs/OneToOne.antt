@@ -27,7 +27,7 @@ use Rattle.block.specs.declared.BlockAnswer.the-variants.{Read, Refused}
 use Rattle.block.specs.declared.BlockRead.{BlockRead}
 use Rattle.block.specs.Numbers.{numberBytes, readNumber}
 use Rattle.block.specs.Blocks.{stepAfter, stepBytes, blockOf}
-use Rattle.block.specs.Reading.{found, refusedAt, answered, countFine, gapFine, nextOffset, firstTable, withEntry, onNumber, readEntries, readBlock}
+use Rattle.block.specs.Reading.{found, refusedAt, blockResults, countFine, gapFine, nextOffset, firstTable, withEntry, onNumber, readEntries, readBlock}
 use Rattle.block.specs.Promise.{Bytes, Good, Gives, tests, OneToOne}
 use Rattle.block.proofs.Numbers.{read-written, written-read, bytes-append, bytes-groups}
 use Rattle.answer.proofs.Orders.{number-some}
@@ -193,10 +193,10 @@ found-is s t h e = go refl (was-number 0 countFine rest t (readNumber s) e)
 
 -- ---- in document 01's numbers
 
-success : (r : BlockRead) (t : Table) → answered r ≡ (0, 0, t) → r ≡ found t
+success : (r : BlockRead) (t : Table) → blockResults r ≡ (0, 0, t) → r ≡ found t
 success r t e = go (r .answer) (r .table) e
   where
-    go : (a : BlockAnswer) (u : Table) → answered (record { answer = a; table = u }) ≡ (0, 0, t) → record { answer = a; table = u } ≡ found t
+    go : (a : BlockAnswer) (u : Table) → blockResults (record { answer = a; table = u }) ≡ (0, 0, t) → record { answer = a; table = u } ≡ found t
     go Read u e = ap found (ap (λ x. x .2) e)
     go (Refused why at) u e = absurd (number-some why (ap (λ x. x .0) e))
 
@@ -210,7 +210,7 @@ unfolding blockOf
 block-bytes t = bytes-append (numberBytes (t .count)) (stepBytes t 0 (t .count - 1)) (bytes-groups 3 (t .count)) (steps-bytes t 0 (t .count - 1))
 
 block-gives : (t : Table) → Good t → Gives (blockOf t) t
-block-gives t g = ap answered (block-found t g)
+block-gives t g = ap blockResults (block-found t g)
 
 given-is : (s : List ℕ) (t : Table) → Bytes s → Gives s t → Good t × (blockOf t ≡ s)
 given-is s t h e = found-is s t h (success (readBlock s) t e)

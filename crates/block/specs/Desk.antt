@@ -9,7 +9,7 @@ use Rattle.leap.specs.declared.Table.{Table}
 use Rattle.leap.specs.Desk.{T, N}
 use Rattle.leap.specs.Leap.{rising, filled, bulletinC}
 use Rattle.block.specs.Blocks.{blockOf}
-use Rattle.block.specs.Reading.{zeroTable, answered, readBlock}
+use Rattle.block.specs.Reading.{zeroTable, blockResults, readBlock}
 
 abbrev pub B : List ℕ
 B =
@@ -56,8 +56,8 @@ edges =
 
 abbrev pub Right : Row → Type 0
 Right (takes t n) = length (blockOf t) ≡ n
-Right (gives s t) = (blockOf t ≡ s) × (answered (readBlock s) ≡ (0, 0, t))
-Right (refuses s number place) = answered (readBlock s) ≡ (number, place, zeroTable)
+Right (gives s t) = (blockOf t ≡ s) × (blockResults (readBlock s) ≡ (0, 0, t))
+Right (refuses s number place) = blockResults (readBlock s) ≡ (number, place, zeroTable)
 
 abbrev pub AllRight : List Row → Type 0
 AllRight [] = Unit {0}

@@ -12,7 +12,7 @@ use Rattle.answer.specs.Buffers.{written, bufferAfter}
 use Rattle.leap.specs.declared.Table.{Table}
 use Rattle.leap.specs.Leap.{accepted}
 use Rattle.block.specs.Blocks.{blockOf}
-use Rattle.block.specs.Reading.{answered, readBlock}
+use Rattle.block.specs.Reading.{blockResults, readBlock}
 
 -- numbers that a byte holds
 abbrev pub Bytes : List ℕ → Type 0
@@ -26,7 +26,7 @@ pub record Good (t : Table) : Type 0 where
 
 -- reading s answers success with table t
 abbrev pub Gives : List ℕ → Table → Type 0
-Gives s t = answered (readBlock s) ≡ (0, 0, t)
+Gives s t = blockResults (readBlock s) ≡ (0, 0, t)
 
 -- the order of refusals of the writer
 abbrev pub tests : Table → List (Bool × Refusal)

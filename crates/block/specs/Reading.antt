@@ -29,9 +29,9 @@ zeroTable = tabled 0 (replicate 64 0) (replicate 64 (pos 0))
 abbrev pub refusedAt : Refusal → ℕ → BlockRead
 refusedAt why at = record { answer = Refused why at; table = zeroTable }
 
--- an answer in document 01's numbers: that of the refusal and the place, both 0 on success, and the table
-abbrev pub answered : BlockRead → ℕ × ℕ × Table
-answered r = (numberAndPlace (r .answer) .0, numberAndPlace (r .answer) .1, r .table)
+-- an answer in the scope's numbers: that of the refusal and the place, both 0 on success, and the table, all zero on a refusal
+abbrev pub blockResults : BlockRead → ℕ × ℕ × Table
+blockResults r = (numberAndPlace (r .answer) .0, numberAndPlace (r .answer) .1, r .table)
   where
     numberAndPlace : BlockAnswer → ℕ × ℕ
     numberAndPlace Read = (0, 0)

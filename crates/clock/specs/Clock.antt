@@ -5,13 +5,13 @@ use mathlib.Core.List.{[], _∷_}
 use Prim.Native.Nat.{ℕ, zero, suc, _+_}
 use lib.Dec.{ltb}
 use Rattle.answer.specs.declared.Refusal.the-variants.{Range as RANGE, Table as TABLE}
-use Rattle.answer.specs.Refusals.{refusing}
+use Rattle.answer.specs.Refusals.{number, refusing}
 use Rattle.months.specs.Months.{monthLength}
 use Rattle.leap.specs.declared.Table.{Table}
 use Rattle.leap.specs.Leap.{accepted, offsetAt}
 use Rattle.stamp.specs.declared.Label.{Label}
 use Rattle.stamp.specs.declared.Reading.{Reading}
-use Rattle.stamp.specs.Labels.{label, monthOf, minuteLength, asked}
+use Rattle.stamp.specs.Labels.{label, noLabel, monthOf, minuteLength, asked}
 use Rattle.clock.specs.declared.TickAnswer.{TickAnswer}
 use Rattle.clock.specs.declared.TickAnswer.the-variants.{Next, Refused}
 
@@ -49,6 +49,11 @@ tickAnswer t l = refusing Refused ((accepted t, TABLE) ∷ []) (labelAnswer t l)
 -- `start`
 unfoldable pub startAnswer : Table → TickAnswer
 startAnswer t = refusing Refused ((accepted t, TABLE) ∷ []) (shown 1972 1 1 0 0 0)
+
+-- an answer in the scope's numbers: that of the refusal, 0 on success, and the label, all zero on a refusal
+abbrev pub tickResults : TickAnswer → ℕ × Label
+tickResults (Next l) = (0, l)
+tickResults (Refused why) = (number why, noLabel)
 
 -- ---- the clock
 

@@ -1,14 +1,15 @@
 -- The pair of doubles that is written for an instant, and the instant that a pair is read as. Between them stands a microsecond,
 -- counted from year 0 on days of 86,400 seconds, on UTC too.
 -- Assumes nothing.
-use mathlib.Core.Bool.{Bool}
+use mathlib.Core.Bool.{Bool, false}
 use mathlib.Core.List.{List, [], _∷_}
 use Prim.Native.Nat.{ℕ, _+_, _*_, _/_, _%_}
 use lib.Dec.{leb}
-use lib.IntN.{ℤ}
+use lib.IntN.{ℤ, pos}
+use lib.Ieee.{fin}
 use Rattle.answer.specs.declared.Refusal.{Refusal}
 use Rattle.answer.specs.declared.Refusal.the-variants.{Ask as ASK, Table as TABLE, Number as NUMBER, Range as RANGE, NoSecond as NOSECOND}
-use Rattle.answer.specs.Refusals.{refusing}
+use Rattle.answer.specs.Refusals.{number, refusing}
 use Rattle.leap.specs.declared.Table.{Table}
 use Rattle.leap.specs.Leap.{accepted}
 use Rattle.stamp.specs.declared.Reading.{Reading}
@@ -38,6 +39,11 @@ julianAnswer t x k =
     refusing Refused
     ((leb k 3, ASK) ∷ (accepted t, TABLE) ∷ (inRange t (scaleOf k) x, RANGE) ∷ [])
     (Dated (dateOf (microOf (stampAt t (scaleOf k) x .reading))))
+
+-- an answer in the scope's numbers: that of the refusal, 0 on success, and the pair, both zero on a refusal
+abbrev pub julianResults : JulianAnswer → ℕ × JulianDate
+julianResults (Dated p) = (0, p)
+julianResults (Refused why) = (number why, record { midnight = fin false 0 (pos 0); fraction = fin false 0 (pos 0) })
 
 -- ---- read
 

@@ -1,62 +1,33 @@
--- What each answer says in document 01's numbers: that of the refusal, 0 on success, and then its values, all zero on a refusal.
--- A stamp is eight numbers and a label six, in the order in which they are written. For a block that is read this is `answered` of `block`.
+-- What C is handed: the answers in the scope's numbers, as the crates below have them (`instantResults`, `stampResults`, ..), with a stamp as eight
+-- numbers, a label as six and a pair as two, in the order in which they are written. A refused one is all zero.
 -- Assumes nothing.
-use mathlib.Core.Bool.{false}
 use mathlib.Core.List.{List, [], _∷_, _++_}
 use Prim.Native.Nat.{ℕ}
-use lib.IntN.{ℤ, pos}
-use lib.Ieee.{Float, fin}
-use lib.ListN.{replicate}
-use Rattle.answer.specs.declared.Written.{Written}
-use Rattle.answer.specs.declared.Written.the-variants.{Wrote, Refused as NotWritten}
-use Rattle.answer.specs.Refusals.{number}
+use lib.IntN.{ℤ}
+use lib.Ieee.{Float}
 use Rattle.stamp.specs.declared.Stamp.{Stamp}
-use Rattle.stamp.specs.declared.InstantAnswer.{InstantAnswer}
-use Rattle.stamp.specs.declared.InstantAnswer.the-variants.{At, Refused as NoInstant}
 use Rattle.stamp.specs.declared.StampAnswer.{StampAnswer}
-use Rattle.stamp.specs.declared.StampAnswer.the-variants.{Stamped, Refused as NoStamp}
 use Rattle.stamp.specs.Labels.{fields}
 use Rattle.stamp.specs.Instants.{scaleNumber}
+use Rattle.stamp.specs.Stamps.{stampResults}
 use Rattle.clock.specs.declared.TickAnswer.{TickAnswer}
-use Rattle.clock.specs.declared.TickAnswer.the-variants.{Next, Refused as NoTick}
+use Rattle.clock.specs.Clock.{tickResults}
 use Rattle.text.specs.declared.TextAnswer.{TextAnswer}
-use Rattle.text.specs.declared.TextAnswer.the-variants.{Read, Refused as NoText}
+use Rattle.text.specs.Text.{textResults}
 use Rattle.julian.specs.declared.JulianAnswer.{JulianAnswer}
-use Rattle.julian.specs.declared.JulianAnswer.the-variants.{Dated, Refused as NoDate}
-
--- ---- stamps
+use Rattle.julian.specs.Dates.{julianResults}
 
 abbrev pub stampFields : Stamp → List ℕ
 stampFields z = scaleNumber (z .scale) ∷ (fields (z .reading .label) ++ z .reading .micro ∷ [])
 
--- ---- the answers
+abbrev pub stampNumbers : StampAnswer → ℕ × List ℕ
+stampNumbers a = (stampResults a .0, stampFields (stampResults a .1))
 
--- the length
-abbrev pub writtenResults : Written → ℕ × ℕ
-writtenResults (Wrote n) = (0, n)
-writtenResults (NotWritten why) = (number why, 0)
+abbrev pub textNumbers : TextAnswer → ℕ × ℤ × List ℕ
+textNumbers a = (textResults a .0, textResults a .1, stampFields (textResults a .2))
 
--- the instant
-abbrev pub instantResults : InstantAnswer → ℕ × ℤ
-instantResults (At x) = (0, x)
-instantResults (NoInstant why) = (number why, pos 0)
+abbrev pub labelNumbers : TickAnswer → ℕ × List ℕ
+labelNumbers a = (tickResults a .0, fields (tickResults a .1))
 
--- the stamp
-abbrev pub stampResults : StampAnswer → ℕ × List ℕ
-stampResults (Stamped z) = (0, stampFields z)
-stampResults (NoStamp why) = (number why, replicate 8 0)
-
--- the instant and the stamp of a text
-abbrev pub textResults : TextAnswer → ℕ × ℤ × List ℕ
-textResults (Read x z) = (0, x, stampFields z)
-textResults (NoText why) = (number why, pos 0, replicate 8 0)
-
--- the label
-abbrev pub tickResults : TickAnswer → ℕ × List ℕ
-tickResults (Next l) = (0, fields l)
-tickResults (NoTick why) = (number why, replicate 6 0)
-
--- the midnight and the fraction
-abbrev pub julianResults : JulianAnswer → ℕ × Float × Float
-julianResults (Dated p) = (0, p .midnight, p .fraction)
-julianResults (NoDate why) = (number why, fin false 0 (pos 0), fin false 0 (pos 0))
+abbrev pub pairNumbers : JulianAnswer → ℕ × Float × Float
+pairNumbers a = (julianResults a .0, julianResults a .1 .midnight, julianResults a .1 .fraction)

@@ -1,15 +1,16 @@
 // The C interface of include/mundreff.h: each call answers the refusal's number, 0 on success, and writes every output on every call.
 // A call makes a table of the lent arrays, asks the crate whose work it is, and stores what `Answers` of specs/ says of the answer.
 ghost use mathlib.Core.Path.{_≡_};
+ghost use Rattle.answer.specs.Buffers.{writtenResults};
 ghost use Rattle.leap.specs.Leap.{tabled, bulletinC};
 ghost use Rattle.stamp.specs.Labels.{fields};
-ghost use Rattle.stamp.specs.Instants.{instantAnswer};
+ghost use Rattle.stamp.specs.Instants.{instantAnswer, instantResults};
 ghost use Rattle.stamp.specs.Stamps.{stampAnswer};
 ghost use Rattle.clock.specs.Clock.{startAnswer, tickAnswer};
-ghost use Rattle.block.specs.Reading.{answered, readBlock};
+ghost use Rattle.block.specs.Reading.{blockResults, readBlock};
 ghost use Rattle.text.specs.Text.{textAnswer, writeAnswer, bufferThen};
 ghost use Rattle.julian.specs.Dates.{julianAnswer, dateAnswer};
-ghost use Rattle.mundreff.specs.Answers.{stampFields, writtenResults, instantResults, stampResults, textResults, tickResults, julianResults};
+ghost use Rattle.mundreff.specs.Answers.{stampFields, stampNumbers, textNumbers, labelNumbers, pairNumbers};
 ghost use Rattle.mundreff.specs.Calls.{labelFrom, scaleFrom, readingFrom, pair, blockWritten, blockAfter};
 use answer::Written;
 use block::BlockAnswer;
@@ -143,7 +144,7 @@ fn give_instant(a: InstantAnswer, out: &mut i64) -> u32
 }
 
 fn give_stamp(a: StampAnswer, out: &mut [u32; 8]) -> u32
-    ensures { λ r. ⌜ (r, now (out .exit)) ≡ stampResults a ⌝ }
+    ensures { λ r. ⌜ (r, now (out .exit)) ≡ stampNumbers a ⌝ }
 {
     match a {
         StampAnswer::Stamped(z) => {
@@ -158,7 +159,7 @@ fn give_stamp(a: StampAnswer, out: &mut [u32; 8]) -> u32
 }
 
 fn give_text<'a>(a: TextAnswer, instant: &'a mut i64, stamp: &'a mut [u32; 8]) -> u32
-    ensures { λ r. ⌜ (r, now (instant .exit), now (stamp .exit)) ≡ textResults a ⌝ }
+    ensures { λ r. ⌜ (r, now (instant .exit), now (stamp .exit)) ≡ textNumbers a ⌝ }
 {
     match a {
         TextAnswer::Read {
@@ -178,7 +179,7 @@ fn give_text<'a>(a: TextAnswer, instant: &'a mut i64, stamp: &'a mut [u32; 8]) -
 }
 
 fn give_label(a: TickAnswer, out: &mut [u32; 6]) -> u32
-    ensures { λ r. ⌜ (r, now (out .exit)) ≡ tickResults a ⌝ }
+    ensures { λ r. ⌜ (r, now (out .exit)) ≡ labelNumbers a ⌝ }
 {
     match a {
         TickAnswer::Next(l) => {
@@ -193,7 +194,7 @@ fn give_label(a: TickAnswer, out: &mut [u32; 6]) -> u32
 }
 
 fn give_pair<'a>(a: JulianAnswer, midnight: &'a mut f64, fraction: &'a mut f64) -> u32
-    ensures { λ r. ⌜ (r, now (midnight .exit), now (fraction .exit)) ≡ julianResults a ⌝ }
+    ensures { λ r. ⌜ (r, now (midnight .exit), now (fraction .exit)) ≡ pairNumbers a ⌝ }
 {
     match a {
         JulianAnswer::Dated(p) => {
@@ -233,7 +234,7 @@ pub extern "C" fn mundreff_read_block<'a>(
     months: &'a mut [u32; 64],
     offsets: &'a mut [i32; 64],
 ) -> u32
-    ensures { λ r. ⌜ (r, now (place .exit), tabled (now (count .exit)) (now (months .exit)) (now (offsets .exit))) ≡ answered (readBlock (now (block .entry))) ⌝ }
+    ensures { λ r. ⌜ (r, now (place .exit), tabled (now (count .exit)) (now (months .exit)) (now (offsets .exit))) ≡ blockResults (readBlock (now (block .entry))) ⌝ }
 {
     let found = block::read_block(block);
     let table = found.table;
@@ -293,7 +294,7 @@ pub extern "C" fn mundreff_stamp_of<'a>(
     scale: u32,
     stamp: &mut [u32; 8],
 ) -> u32
-    ensures { λ r. ⌜ (r, now (stamp .exit)) ≡ stampResults (stampAnswer (tabled count (now (months .entry)) (now (offsets .entry))) instant scale) ⌝ }
+    ensures { λ r. ⌜ (r, now (stamp .exit)) ≡ stampNumbers (stampAnswer (tabled count (now (months .entry)) (now (offsets .entry))) instant scale) ⌝ }
 {
     let a = stamp::stamp_of(table_of(count, months, offsets), instant, scale);
     give_stamp(a, stamp)
@@ -309,7 +310,7 @@ pub extern "C" fn mundreff_read_text<'a, 'b>(
     instant: &'b mut i64,
     stamp: &'b mut [u32; 8],
 ) -> u32
-    ensures { λ r. ⌜ (r, now (instant .exit), now (stamp .exit)) ≡ textResults (textAnswer (tabled count (now (months .entry)) (now (offsets .entry))) scale (now (text .entry))) ⌝ }
+    ensures { λ r. ⌜ (r, now (instant .exit), now (stamp .exit)) ≡ textNumbers (textAnswer (tabled count (now (months .entry)) (now (offsets .entry))) scale (now (text .entry))) ⌝ }
 {
     let a = text::read_text(table_of(count, months, offsets), scale, text);
     give_text(a, instant, stamp)
@@ -345,7 +346,7 @@ pub extern "C" fn mundreff_write_julian<'a, 'b>(
     midnight: &'b mut f64,
     fraction: &'b mut f64,
 ) -> u32
-    ensures { λ r. ⌜ (r, now (midnight .exit), now (fraction .exit)) ≡ julianResults (julianAnswer (tabled count (now (months .entry)) (now (offsets .entry))) instant scale) ⌝ }
+    ensures { λ r. ⌜ (r, now (midnight .exit), now (fraction .exit)) ≡ pairNumbers (julianAnswer (tabled count (now (months .entry)) (now (offsets .entry))) instant scale) ⌝ }
 {
     let a = julian::write_julian(table_of(count, months, offsets), instant, scale);
     give_pair(a, midnight, fraction)
@@ -375,7 +376,7 @@ pub extern "C" fn mundreff_start<'a>(
     offsets: &'a [i32; 64],
     label: &mut [u32; 6],
 ) -> u32
-    ensures { λ r. ⌜ (r, now (label .exit)) ≡ tickResults (startAnswer (tabled count (now (months .entry)) (now (offsets .entry)))) ⌝ }
+    ensures { λ r. ⌜ (r, now (label .exit)) ≡ labelNumbers (startAnswer (tabled count (now (months .entry)) (now (offsets .entry)))) ⌝ }
 {
     let a = clock::start(table_of(count, months, offsets));
     give_label(a, label)
@@ -389,7 +390,7 @@ pub extern "C" fn mundreff_tick<'a>(
     label: &[u32; 6],
     next: &mut [u32; 6],
 ) -> u32
-    ensures { λ r. ⌜ (r, now (next .exit)) ≡ tickResults (tickAnswer (tabled count (now (months .entry)) (now (offsets .entry))) (labelFrom 0 (now (label .entry)))) ⌝ }
+    ensures { λ r. ⌜ (r, now (next .exit)) ≡ labelNumbers (tickAnswer (tabled count (now (months .entry)) (now (offsets .entry))) (labelFrom 0 (now (label .entry)))) ⌝ }
 {
     let a = clock::tick(table_of(count, months, offsets), label_of(label));
     give_label(a, next)

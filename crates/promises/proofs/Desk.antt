@@ -7,15 +7,15 @@ use Rattle.answer.specs.declared.Refusal.{Refusal}
 use Rattle.answer.specs.Refusals.{number}
 use Rattle.text.specs.declared.TextAnswer.{TextAnswer}
 use Rattle.text.specs.declared.TextAnswer.the-variants.{Read, Refused}
-use Rattle.text.specs.Text.{answered}
+use Rattle.text.specs.Text.{textResults}
 use Rattle.text.proofs.Worked as text
 use Rattle.block.proofs.Worked as block
 use Rattle.promises.specs.Worked.{rows, AllRight}
 
-read : {a : TextAnswer} {x : ℤ} {z : Stamp} → a ≡ Read x z → (answered a .0 ≡ 0) × (answered a .1 ≡ x)
+read : {a : TextAnswer} {x : ℤ} {z : Stamp} → a ≡ Read x z → (textResults a .0 ≡ 0) × (textResults a .1 ≡ x)
 read e = rw e (refl, refl)
 
-not-read : {a : TextAnswer} {why : Refusal} → a ≡ Refused why → answered a .0 ≡ number why
+not-read : {a : TextAnswer} {why : Refusal} → a ≡ Refused why → textResults a .0 ≡ number why
 not-read e = rw e refl
 
 pub worked : AllRight rows

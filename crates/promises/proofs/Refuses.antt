@@ -7,15 +7,16 @@ use Prim.Native.Nat.{ℕ}
 use lib.ListN.{length, take, drop}
 use Rattle.laws.proofs.Placed.{length-over, over-front, over-rest}
 use Rattle.answer.specs.declared.Refusal.{Refusal}
-use Rattle.answer.specs.declared.Written.the-variants.{Wrote}
-use Rattle.answer.specs.Buffers.{written, bufferAfter}
+use Rattle.answer.specs.Buffers.{written, bufferAfter, writtenResults}
 use Rattle.answer.proofs.Writers.{refused-keeps, wrote-over}
+use Rattle.block.specs.Reading.{readBlock}
 use Rattle.block.proofs.Zeros.{gives-no-table}
 use Rattle.promises.specs.Refused.{Kept, Refuses}
+use Rattle.promises.proofs.Said.{wrote, not-wrote, not-read}
 
-kept : (tests : List (Bool × Refusal)) (bytes buffer : List ℕ) (n : ℕ) → written tests bytes buffer ≡ Wrote n → Kept bytes buffer (bufferAfter tests bytes buffer) n
+kept : (tests : List (Bool × Refusal)) (bytes buffer : List ℕ) (n : ℕ) → writtenResults (written tests bytes buffer) ≡ (0, n) → Kept bytes buffer (bufferAfter tests bytes buffer) n
 kept tests bytes buffer n e =
-    let w = wrote-over tests bytes buffer n e in
+    let w = wrote-over tests bytes buffer n (wrote (written tests bytes buffer) n e) in
     let is = w .1 .1 in
     record {
       the-bytes = ap (take n) is ∙ over-front bytes buffer (w .0);
@@ -24,4 +25,9 @@ kept tests bytes buffer n e =
     }
 
 pub refuses : Refuses
-refuses = record { writes-nothing = refused-keeps; writes-no-more = kept; gives-no-table = gives-no-table }
+refuses =
+    record {
+      writes-nothing = λ tests bytes buffer h. let r = not-wrote (written tests bytes buffer) h in refused-keeps tests bytes buffer (r .0) (r .1);
+      writes-no-more = kept;
+      gives-no-table = λ s h. let r = not-read (readBlock s .answer) (readBlock s .table) h in gives-no-table s (r .0) (r .1) (r .2);
+    }

@@ -1,6 +1,6 @@
--- Answers in document 01's numbers: that of the refusal, 0 on success, the place of a refused block, and the values, zero in the rest on a refusal.
--- `Answers` of the crate `mundreff` has them for each answer type, case by case (`writtenResults`, `instantResults`, ..), and `answered` of `block` for a block:
--- they are what the C interface hands over. Here is what holds of them.
+-- Answers in the scope's numbers: that of the refusal, 0 on success, the place of a refused block, and the values, zero in the rest on a refusal.
+-- Each crate has them for its answer type, case by case (`writtenResults`, `instantResults`, `stampResults`, `tickResults`, `textResults`, `julianResults`,
+-- `blockResults`), and the promises speak of answers by these alone. Here is what holds of them; stamps, labels and pairs are shown in C's form.
 -- Assumes nothing.
 use mathlib.Core.Path.{_≡_}
 use mathlib.Core.Bool.{false}
@@ -11,24 +11,26 @@ use lib.ListN.{replicate}
 use Rattle.answer.specs.declared.Refusal.{Refusal}
 use Rattle.answer.specs.declared.Written.the-variants.{Refused as NotWritten}
 use Rattle.answer.specs.Refusals.{number}
+use Rattle.answer.specs.Buffers.{writtenResults}
 use Rattle.stamp.specs.declared.InstantAnswer.the-variants.{Refused as NoInstant}
 use Rattle.stamp.specs.declared.StampAnswer.the-variants.{Refused as NoStamp}
+use Rattle.stamp.specs.Instants.{instantResults}
 use Rattle.clock.specs.declared.TickAnswer.the-variants.{Refused as NoTick}
 use Rattle.text.specs.declared.TextAnswer.the-variants.{Refused as NoText}
 use Rattle.julian.specs.declared.JulianAnswer.the-variants.{Refused as NoDate}
-use Rattle.block.specs.Reading.{zeroTable, refusedAt, answered}
-use Rattle.mundreff.specs.Answers.{writtenResults, instantResults, stampResults, tickResults, textResults, julianResults}
+use Rattle.block.specs.Reading.{zeroTable, refusedAt, blockResults}
+use Rattle.mundreff.specs.Answers.{stampNumbers, labelNumbers, textNumbers, pairNumbers}
 
 -- what a refusal hands over, whatever the call: its number, and zero in the rest
 pub record ZeroInTheRest (why : Refusal) : Type 0 where
   pub writing : writtenResults (NotWritten why) ≡ (number why, 0)
   pub an-instant : instantResults (NoInstant why) ≡ (number why, pos 0)
-  pub a-stamp : stampResults (NoStamp why) ≡ (number why, replicate 8 0)
-  pub a-label : tickResults (NoTick why) ≡ (number why, replicate 6 0)
-  pub a-text : textResults (NoText why) ≡ (number why, pos 0, replicate 8 0)
-  pub a-pair : julianResults (NoDate why) ≡ (number why, fin false 0 (pos 0), fin false 0 (pos 0))
+  pub a-stamp : stampNumbers (NoStamp why) ≡ (number why, replicate 8 0)
+  pub a-label : labelNumbers (NoTick why) ≡ (number why, replicate 6 0)
+  pub a-text : textNumbers (NoText why) ≡ (number why, pos 0, replicate 8 0)
+  pub a-pair : pairNumbers (NoDate why) ≡ (number why, fin false 0 (pos 0), fin false 0 (pos 0))
   -- a block has its place too
-  pub a-block : (place : ℕ) → answered (refusedAt why place) ≡ (number why, place, zeroTable)
+  pub a-block : (place : ℕ) → blockResults (refusedAt why place) ≡ (number why, place, zeroTable)
 
 pub record Answers : Type 0 where
   pub zero-in-the-rest : (why : Refusal) → ZeroInTheRest why

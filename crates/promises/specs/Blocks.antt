@@ -5,8 +5,7 @@ use mathlib.Core.Path.{_≡_}
 use mathlib.Core.List.{List}
 use Prim.Native.Nat.{ℕ}
 use lib.ListN.{take}
-use Rattle.answer.specs.declared.Written.the-variants.{Wrote}
-use Rattle.answer.specs.Buffers.{written, bufferAfter}
+use Rattle.answer.specs.Buffers.{written, bufferAfter, writtenResults}
 use Rattle.leap.specs.declared.Table.{Table}
 use Rattle.block.specs.Blocks.{blockOf}
 use Rattle.block.specs.Promise.{Bytes, Good, Gives, tests}
@@ -20,4 +19,4 @@ pub record Demand2Blocks : Type 0 where
   pub one-table-a-block : (t u : Table) → Good t → Good u → blockOf t ≡ blockOf u → t ≡ u
   pub one-block-a-table : (r s : List ℕ) (t : Table) → Bytes r → Bytes s → Gives r t → Gives s t → r ≡ s
   -- what `write_block` leaves in a buffer is read back from there
-  pub reads-back : (t : Table) (buffer : List ℕ) (n : ℕ) → Good t → written (tests t) (blockOf t) buffer ≡ Wrote n → Gives (take n (bufferAfter (tests t) (blockOf t) buffer)) t
+  pub reads-back : (t : Table) (buffer : List ℕ) (n : ℕ) → Good t → writtenResults (written (tests t) (blockOf t) buffer) ≡ (0, n) → Gives (take n (bufferAfter (tests t) (blockOf t) buffer)) t

@@ -6,10 +6,8 @@ use mathlib.Core.List.{List}
 use Prim.Native.Nat.{ℕ}
 use lib.ListN.{length, take, drop}
 use Rattle.answer.specs.declared.Refusal.{Refusal}
-use Rattle.answer.specs.declared.Written.the-variants.{Wrote, Refused}
-use Rattle.answer.specs.Buffers.{written, bufferAfter}
-use Rattle.block.specs.declared.BlockAnswer.the-variants.{Refused as BlockRefused}
-use Rattle.block.specs.Reading.{zeroTable, readBlock}
+use Rattle.answer.specs.Buffers.{written, bufferAfter, writtenResults}
+use Rattle.block.specs.Reading.{zeroTable, readBlock, blockResults}
 
 -- what a success of n bytes leaves in the buffer: the bytes in front, past them its own, and its length
 pub record Kept (bytes buffer after : List ℕ) (n : ℕ) : Type 0 where
@@ -19,7 +17,7 @@ pub record Kept (bytes buffer after : List ℕ) (n : ℕ) : Type 0 where
 
 pub record Refuses : Type 0 where
   -- every writer, whatever it is asked before ROOM and whatever its bytes
-  pub writes-nothing : (tests : List (Bool × Refusal)) (bytes buffer : List ℕ) (why : Refusal) → written tests bytes buffer ≡ Refused why → bufferAfter tests bytes buffer ≡ buffer
-  pub writes-no-more : (tests : List (Bool × Refusal)) (bytes buffer : List ℕ) (n : ℕ) → written tests bytes buffer ≡ Wrote n → Kept bytes buffer (bufferAfter tests bytes buffer) n
+  pub writes-nothing : (tests : List (Bool × Refusal)) (bytes buffer : List ℕ) → (writtenResults (written tests bytes buffer) .0 ≡ 0 → ⊥) → bufferAfter tests bytes buffer ≡ buffer
+  pub writes-no-more : (tests : List (Bool × Refusal)) (bytes buffer : List ℕ) (n : ℕ) → writtenResults (written tests bytes buffer) ≡ (0, n) → Kept bytes buffer (bufferAfter tests bytes buffer) n
   -- a block that is refused gives the all-zero table
-  pub gives-no-table : (block : List ℕ) (why : Refusal) (place : ℕ) → readBlock block .answer ≡ BlockRefused why place → readBlock block .table ≡ zeroTable
+  pub gives-no-table : (block : List ℕ) → (blockResults (readBlock block) .0 ≡ 0 → ⊥) → readBlock block .table ≡ zeroTable

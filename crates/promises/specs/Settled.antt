@@ -7,27 +7,27 @@ use Prim.Native.Nat.{ℕ}
 use lib.IntN.{ℤ}
 use lib.Ieee.{Float}
 use Rattle.answer.specs.declared.Written.{Written}
-use Rattle.answer.specs.Buffers.{written, bufferAfter}
+use Rattle.answer.specs.Buffers.{written, bufferAfter, writtenResults}
 use Rattle.leap.specs.declared.Table.{Table}
 use Rattle.leap.specs.Leap.{bulletinC}
 use Rattle.stamp.specs.declared.Label.{Label}
 use Rattle.stamp.specs.declared.Reading.{Reading}
 use Rattle.stamp.specs.declared.InstantAnswer.{InstantAnswer}
 use Rattle.stamp.specs.declared.StampAnswer.{StampAnswer}
-use Rattle.stamp.specs.Instants.{instantAnswer}
+use Rattle.stamp.specs.Instants.{instantAnswer, instantResults}
 use Rattle.stamp.specs.Stamps.{stampAnswer}
 use Rattle.clock.specs.declared.TickAnswer.{TickAnswer}
 use Rattle.clock.specs.Clock.{startAnswer, tickAnswer}
 use Rattle.block.specs.declared.BlockRead.{BlockRead}
 use Rattle.block.specs.Blocks.{blockOf}
-use Rattle.block.specs.Reading.{answered, readBlock}
+use Rattle.block.specs.Reading.{blockResults, readBlock}
 use Rattle.block.specs.Promise.{tests}
 use Rattle.text.specs.declared.TextAnswer.{TextAnswer}
 use Rattle.text.specs.Text.{textAnswer, writeAnswer, bufferThen}
 use Rattle.julian.specs.declared.JulianAnswer.{JulianAnswer}
 use Rattle.julian.specs.declared.JulianDate.{JulianDate}
 use Rattle.julian.specs.Dates.{julianAnswer, dateAnswer}
-use Rattle.mundreff.specs.Answers.{writtenResults, instantResults, stampResults, textResults, tickResults, julianResults}
+use Rattle.mundreff.specs.Answers.{stampNumbers, textNumbers, labelNumbers, pairNumbers}
 use Rattle.mundreff.specs.Calls.{labelFrom, scaleFrom, readingFrom, pair, blockWritten, blockAfter}
 
 -- at most one value is allowed
@@ -58,13 +58,13 @@ pub record Settled : Type 0 where
 -- the calls of the C interface: the number that each returns, and everything that it writes
 pub record SettledInC : Type 0 where
   pub bulletin-c : AtMostOne (λ (r : ℕ × Table). (r .0 ≡ 0) × (r .1 ≡ bulletinC))
-  pub read-block : (block : List ℕ) → AtMostOne (λ (r : ℕ × ℕ × Table). r ≡ answered (readBlock block))
+  pub read-block : (block : List ℕ) → AtMostOne (λ (r : ℕ × ℕ × Table). r ≡ blockResults (readBlock block))
   pub write-block : (t : Table) (buffer : List ℕ) → AtMostOne (λ (r : WroteInC). (r .0 ≡ writtenResults (blockWritten t buffer)) × (r .1 ≡ blockAfter t buffer))
   pub instant-of : (t : Table) (stamp : List ℕ) → AtMostOne (λ (r : ℕ × ℤ). r ≡ instantResults (instantAnswer t (scaleFrom stamp) (readingFrom stamp)))
-  pub stamp-of : (t : Table) (instant : ℤ) (scale : ℕ) → AtMostOne (λ (r : ℕ × List ℕ). r ≡ stampResults (stampAnswer t instant scale))
-  pub read-text : (t : Table) (scale : ℕ) (text : List ℕ) → AtMostOne (λ (r : ℕ × ℤ × List ℕ). r ≡ textResults (textAnswer t scale text))
+  pub stamp-of : (t : Table) (instant : ℤ) (scale : ℕ) → AtMostOne (λ (r : ℕ × List ℕ). r ≡ stampNumbers (stampAnswer t instant scale))
+  pub read-text : (t : Table) (scale : ℕ) (text : List ℕ) → AtMostOne (λ (r : ℕ × ℤ × List ℕ). r ≡ textNumbers (textAnswer t scale text))
   pub write-text : (t : Table) (instant : ℤ) (picture scale digits : ℕ) (buffer : List ℕ) → AtMostOne (λ (r : WroteInC). (r .0 ≡ writtenResults (writeAnswer t instant picture scale digits buffer)) × (r .1 ≡ bufferThen t instant picture scale digits buffer))
-  pub write-julian : (t : Table) (instant : ℤ) (scale : ℕ) → AtMostOne (λ (r : ℕ × Float × Float). r ≡ julianResults (julianAnswer t instant scale))
+  pub write-julian : (t : Table) (instant : ℤ) (scale : ℕ) → AtMostOne (λ (r : ℕ × Float × Float). r ≡ pairNumbers (julianAnswer t instant scale))
   pub read-julian : (t : Table) (scale : ℕ) (midnight fraction : Float) → AtMostOne (λ (r : ℕ × ℤ). r ≡ instantResults (dateAnswer t scale (pair midnight fraction)))
-  pub start : (t : Table) → AtMostOne (λ (r : ℕ × List ℕ). r ≡ tickResults (startAnswer t))
-  pub tick : (t : Table) (label : List ℕ) → AtMostOne (λ (r : ℕ × List ℕ). r ≡ tickResults (tickAnswer t (labelFrom 0 label)))
+  pub start : (t : Table) → AtMostOne (λ (r : ℕ × List ℕ). r ≡ labelNumbers (startAnswer t))
+  pub tick : (t : Table) (label : List ℕ) → AtMostOne (λ (r : ℕ × List ℕ). r ≡ labelNumbers (tickAnswer t (labelFrom 0 label)))

@@ -8,16 +8,15 @@ use mathlib.Core.List.{List}
 use Prim.Native.Nat.{ℕ}
 use lib.IntN.{ℤ}
 use lib.ListN.{take}
-use Rattle.answer.specs.declared.Written.the-variants.{Wrote}
+use Rattle.answer.specs.Buffers.{writtenResults}
 use Rattle.leap.specs.declared.Table.{Table}
 use Rattle.stamp.specs.declared.Reading.{Reading}
 use Rattle.stamp.specs.declared.Stamp.{Stamp}
-use Rattle.stamp.specs.declared.StampAnswer.the-variants.{Stamped}
 use Rattle.stamp.specs.Instants.{scaleOf}
-use Rattle.stamp.specs.Stamps.{stampAnswer}
 use Rattle.stamp.specs.Promise.{stamp}
 use Rattle.text.specs.Text.{writeAnswer, bufferThen}
 use Rattle.text.specs.Promise.{Pictured, Determined, Sized, Gives, Names, Latest}
+use Rattle.promises.specs.Stamps.{GivesStamp}
 
 -- under one table and on one scale number
 pub record Reading-and-writing (t : Table) (k : ℕ) : Type 0 where
@@ -25,9 +24,9 @@ pub record Reading-and-writing (t : Table) (k : ℕ) : Type 0 where
   pub accepted-names-a-moment : (text : List ℕ) (x : ℤ) (z : Stamp) → Gives t k text x z → (z .scale ≡ scaleOf k) × Names t k text x (z .reading)
   pub a-moment-is-accepted : (text : List ℕ) (x : ℤ) (r : Reading) → Names t k text x r → Gives t k text x (stamp (scaleOf k) r)
   -- in any picture, from any buffer: six digits read back as the instant with its stamp, fewer as the last such moment not after it
-  pub six-digits-read-back : (x : ℤ) (p : ℕ) (buffer : List ℕ) (n : ℕ) → writeAnswer t x p k 6 buffer ≡ Wrote n
-      → (z : Stamp) × (stampAnswer t x k ≡ Stamped z) × Gives t k (take n (bufferThen t x p k 6 buffer)) x z
-  pub fewer-cut-to-the-past : (x : ℤ) (p digits : ℕ) (buffer : List ℕ) (n : ℕ) → writeAnswer t x p k digits buffer ≡ Wrote n
+  pub six-digits-read-back : (x : ℤ) (p : ℕ) (buffer : List ℕ) (n : ℕ) → writtenResults (writeAnswer t x p k 6 buffer) ≡ (0, n)
+      → (z : Stamp) × GivesStamp t k x z × Gives t k (take n (bufferThen t x p k 6 buffer)) x z
+  pub fewer-cut-to-the-past : (x : ℤ) (p digits : ℕ) (buffer : List ℕ) (n : ℕ) → writtenResults (writeAnswer t x p k digits buffer) ≡ (0, n)
       → (y : ℤ) × (z : Stamp) × Gives t k (take n (bufferThen t x p k digits buffer)) y z × Latest t (scaleOf k) digits x y
 
 pub record Demand2Text : Type 0 where

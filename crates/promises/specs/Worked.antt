@@ -1,4 +1,4 @@
--- The night desk's proved rows (marked P) as one table: what the definitions give for each, in document 01's numbers.
+-- The night desk's proved rows (marked P) as one table: what the definitions give for each, in the scope's numbers.
 -- Seconds are TAI past J2000; the instant itself is in microseconds.
 -- Assumes nothing.
 use mathlib.Core.Path.{_≡_}
@@ -9,9 +9,9 @@ use lib.IntN.{ℤ, pos, negℤ}
 use Rattle.leap.specs.declared.Table.{Table}
 use Rattle.leap.specs.Leap.{bulletinC}
 use Rattle.leap.specs.Desk.{T, N}
-use Rattle.block.specs.Reading.{zeroTable, readBlock, answered as blockAnswered}
+use Rattle.block.specs.Reading.{zeroTable, readBlock, blockResults}
 use Rattle.text.specs.Pictures.{ascii}
-use Rattle.text.specs.Text.{textAnswer, answered}
+use Rattle.text.specs.Text.{textAnswer, textResults}
 
 pub data Row : Type 0 where
   -- a stamp on a scale under a table is this instant
@@ -47,9 +47,9 @@ rows =
     ∷ []
 
 abbrev pub Right : Row → Type 0
-Right (gives t k s x) = (answered (textAnswer t k (ascii s)) .0 ≡ 0) × (answered (textAnswer t k (ascii s)) .1 ≡ x)
-Right (refused t k s number) = answered (textAnswer t k (ascii s)) .0 ≡ number
-Right (faulty s number place) = blockAnswered (readBlock s) ≡ (number, place, zeroTable)
+Right (gives t k s x) = (textResults (textAnswer t k (ascii s)) .0 ≡ 0) × (textResults (textAnswer t k (ascii s)) .1 ≡ x)
+Right (refused t k s number) = textResults (textAnswer t k (ascii s)) .0 ≡ number
+Right (faulty s number place) = blockResults (readBlock s) ≡ (number, place, zeroTable)
 
 abbrev pub AllRight : List Row → Type 0
 AllRight [] = Unit {0}

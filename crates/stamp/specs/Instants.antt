@@ -6,7 +6,7 @@ use Prim.Native.Nat.{ℕ, _+_, _*_, _-_}
 use lib.Dec.{eqb, leb}
 use lib.IntN.{ℤ, pos, negsuc, natAbs, _+ℤ_, _-ℤ_, _*ℤ_}
 use Rattle.answer.specs.declared.Refusal.the-variants.{Ask as ASK, Table as TABLE}
-use Rattle.answer.specs.Refusals.{refusing}
+use Rattle.answer.specs.Refusals.{number, refusing}
 use Rattle.leap.specs.declared.Table.{Table}
 use Rattle.leap.specs.Leap.{accepted, offsetAt}
 use Rattle.stamp.specs.declared.Scale.{Scale}
@@ -66,3 +66,8 @@ fieldsAnswer t s r = refusing Refused (asked (offsetsOf t s) (mostSecond s) r) (
 -- `instant_of`
 unfoldable pub instantAnswer : Table → ℕ → Reading → InstantAnswer
 instantAnswer t k r = refusing Refused ((leb k 3, ASK) ∷ (accepted t, TABLE) ∷ []) (fieldsAnswer t (scaleOf k) r)
+
+-- an answer in the scope's numbers: that of the refusal, 0 on success, and the instant, zero on a refusal
+abbrev pub instantResults : InstantAnswer → ℕ × ℤ
+instantResults (At x) = (0, x)
+instantResults (Refused why) = (number why, pos 0)

@@ -18,6 +18,10 @@ use Rattle.stamp.specs.declared.Reading.{Reading}
 abbrev pub label : ℕ → ℕ → ℕ → ℕ → ℕ → ℕ → Label
 label y mo d h mi s = record { year = y; month = mo; day = d; hour = h; minute = mi; second = s }
 
+-- what stands for a label where there is none
+abbrev pub noLabel : Label
+noLabel = label 0 0 0 0 0 0
+
 -- TAI less the scale in each month, in seconds: TAI-UTC for UTC, 0 for a uniform scale.
 abbrev pub Offsets : Type 0
 Offsets = ℕ → ℤ

@@ -7,17 +7,18 @@ use lib.Dec.{leb}
 use lib.IntN.{ℤ, pos, natAbs, _+ℤ_, _-ℤ_}
 use lib.Signed.{leZ}
 use Rattle.answer.specs.declared.Refusal.the-variants.{Ask as ASK, Table as TABLE, Range as RANGE}
-use Rattle.answer.specs.Refusals.{refusing}
+use Rattle.answer.specs.Refusals.{number, refusing}
 use Rattle.months.specs.Months.{daysBefore, monthLength}
 use Rattle.leap.specs.declared.Table.{Table}
 use Rattle.leap.specs.Leap.{accepted}
 use Rattle.stamp.specs.declared.Scale.{Scale}
+use Rattle.stamp.specs.declared.Scale.the-variants.{Utc}
 use Rattle.stamp.specs.declared.Label.{Label}
 use Rattle.stamp.specs.declared.Reading.{Reading}
 use Rattle.stamp.specs.declared.Stamp.{Stamp}
 use Rattle.stamp.specs.declared.StampAnswer.{StampAnswer}
 use Rattle.stamp.specs.declared.StampAnswer.the-variants.{Stamped, Refused}
-use Rattle.stamp.specs.Labels.{Offsets, label}
+use Rattle.stamp.specs.Labels.{Offsets, label, noLabel}
 use Rattle.stamp.specs.Instants.{scaleOf, fixed, offsetsOf, countOf, instantOf}
 
 -- ---- the label of a second
@@ -84,3 +85,12 @@ timeAnswer t s x = refusing Refused ((inRange t s x, RANGE) ∷ []) (Stamped (st
 -- `stamp_of`
 unfoldable pub stampAnswer : Table → ℤ → ℕ → StampAnswer
 stampAnswer t x k = refusing Refused ((leb k 3, ASK) ∷ (accepted t, TABLE) ∷ []) (timeAnswer t (scaleOf k) x)
+
+-- every number of it zero
+abbrev pub noStamp : Stamp
+noStamp = record { scale = Utc; reading = record { label = noLabel; micro = 0 } }
+
+-- an answer in the scope's numbers: that of the refusal, 0 on success, and the stamp, all zero on a refusal
+abbrev pub stampResults : StampAnswer → ℕ × Stamp
+stampResults (Stamped z) = (0, z)
+stampResults (Refused why) = (number why, noStamp)

@@ -33,7 +33,7 @@ use Rattle.text.specs.declared.TextAnswer.{TextAnswer}
 use Rattle.text.specs.declared.TextAnswer.the-variants.{Read, Refused}
 use Rattle.text.specs.Pictures.{fractionText, pictureText, DateFits, WellFormed}
 use Rattle.text.specs.Guess.{guessed, hasPicture}
-use Rattle.text.specs.Text.{on, dateOr, dateOf, readingOf, readAnswer, readTests, textAnswer, answered, dateAs, fieldsOf}
+use Rattle.text.specs.Text.{on, dateOr, dateOf, readingOf, readAnswer, readTests, textAnswer, textResults, dateAs, fieldsOf}
 use Rattle.text.specs.Promise.{Pictured, Determined, Sized, Names, Exactly}
 use Rattle.text.proofs.Pictured.{picture-is, has-picture}
 use Rattle.stamp.proofs.Admitted.{Admitted, admitted-to}
@@ -128,7 +128,7 @@ module _ (t : Table) (k : ℕ) (text : List ℕ) where
   no-read x z why e = let z : _≡_ {A = ℕ} 0 1 = cc in omega arith
 
   -- number 0 is no refusal's
-  given : (a : TextAnswer) (x : ℤ) (z : Stamp) → answered a ≡ (0, x, z) → a ≡ Read x z
+  given : (a : TextAnswer) (x : ℤ) (z : Stamp) → textResults a ≡ (0, x, z) → a ≡ Read x z
   given (Read y u) x z e = ap₂ Read (ap (λ v. v .1) e) (ap (λ v. v .2) e)
   given (Refused why) x z e = absurd (number-some why (ap (λ v. v .0) e))
 
@@ -160,4 +160,4 @@ module _ (t : Table) (k : ℕ) (text : List ℕ) where
       is-instant q = cc
 
   pub exactly : Exactly t k text
-  exactly = record { only = λ x z e. only x z (given (textAnswer t k text) x z e); each = λ x r n. ap answered (reads-as x r n) }
+  exactly = record { only = λ x z e. only x z (given (textAnswer t k text) x z e); each = λ x r n. ap textResults (reads-as x r n) }

@@ -37,7 +37,7 @@ use Rattle.stamp.proofs.Facts.{clock-to}
 use Rattle.stamp.proofs.Ends.{instant-is, range-count}
 use Rattle.stamp.proofs.Undone.{stamp-given, undo}
 use Rattle.text.specs.Pictures.{dateText, clockText, pictureText}
-use Rattle.text.specs.Text.{dateAs, textOf, textAnswer, answered, writeTests, textAt, writeAnswer, bufferThen}
+use Rattle.text.specs.Text.{dateAs, textOf, textAnswer, textResults, writeTests, textAt, writeAnswer, bufferThen}
 use Rattle.text.specs.Promise.{Gives, Names, Showable, Latest, Back, Promised}
 use Rattle.text.proofs.Spelling.{fraction-cut}
 use Rattle.text.proofs.Answers.{stamp-reads}
@@ -166,7 +166,7 @@ module _ (t : Table) (k : ℕ) (x : ℤ) (p d : ℕ) (buffer : List ℕ) (n : �
       }
 
   answer : Gives t k (take n (bufferThen t x p k d buffer)) y (stamp (scaleOf k) r′)
-  answer = ap (λ (l : List ℕ). answered (textAnswer t k l)) front ∙ exactly t k text .each y r′ names
+  answer = ap (λ (l : List ℕ). textResults (textAnswer t k l)) front ∙ exactly t k text .each y r′ names
 
   -- what is cut lies between the two
   apart : up y + (down x + r .micro % 10 ^ (6 - d)) ≡ up x + down y

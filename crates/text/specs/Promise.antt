@@ -22,7 +22,7 @@ use Rattle.stamp.specs.Promise.{Reads, stamp}
 use Rattle.text.specs.declared.Fields.{Fields}
 use Rattle.text.specs.Pictures.{pictureText, WellFormed}
 use Rattle.text.specs.Guess.{guessed, hasPicture}
-use Rattle.text.specs.Text.{textOf, textAnswer, answered, writeAnswer, bufferThen}
+use Rattle.text.specs.Text.{textOf, textAnswer, textResults, writeAnswer, bufferThen}
 
 -- ---- pictures
 
@@ -54,7 +54,7 @@ pub record Shows (text : List ℕ) (r : Reading) : Type 0 where
 
 -- read under table t on scale k the text gives number 0, the instant x and the stamp z
 abbrev pub Gives : Table → ℕ → List ℕ → ℤ → Stamp → Type 0
-Gives t k text x z = answered (textAnswer t k text) ≡ (0, x, z)
+Gives t k text x z = textResults (textAnswer t k text) ≡ (0, x, z)
 
 -- on scale k the text names the moment r, which exists there and is the instant x
 pub record Names (t : Table) (k : ℕ) (text : List ℕ) (x : ℤ) (r : Reading) : Type 0 where

@@ -18,13 +18,12 @@ use Rattle.calendar.specs.Dates.{dateInYear}
 use Rattle.leap.specs.declared.Table.{Table}
 use Rattle.leap.specs.Leap.{accepted}
 use Rattle.stamp.specs.declared.Scale.{Scale}
-use Rattle.stamp.specs.declared.Scale.the-variants.{Utc}
 use Rattle.stamp.specs.declared.Label.{Label}
 use Rattle.stamp.specs.declared.Reading.{Reading}
 use Rattle.stamp.specs.declared.Stamp.{Stamp}
 use Rattle.stamp.specs.Labels.{label, monthOf, asked}
 use Rattle.stamp.specs.Instants.{scaleOf, offsetsOf, mostSecond, instantOf}
-use Rattle.stamp.specs.Stamps.{inRange, stampAt}
+use Rattle.stamp.specs.Stamps.{inRange, stampAt, noStamp}
 use Rattle.stamp.specs.Promise.{stamp}
 use Rattle.text.specs.declared.Date.{Date}
 use Rattle.text.specs.declared.Date.the-variants.{Numbered, OfYear, Named}
@@ -68,10 +67,10 @@ readTests t k text = (leb k 3, ASK) ∷ (accepted t, TABLE) ∷ (hasPicture text
 unfoldable pub textAnswer : Table → ℕ → List ℕ → TextAnswer
 textAnswer t k text = refusing Refused (readTests t k text) (readAnswer t (scaleOf k) (readingOf (guessed text)))
 
--- an answer in document 01's numbers: that of the refusal, 0 on success; the instant and the stamp, all zero after a refusal
-abbrev pub answered : TextAnswer → ℕ × ℤ × Stamp
-answered (Read x z) = (0, x, z)
-answered (Refused why) = (number why, pos 0, stamp Utc (record { label = label 0 0 0 0 0 0; micro = 0 }))
+-- an answer in the scope's numbers: that of the refusal, 0 on success, the instant and the stamp, all zero on a refusal
+abbrev pub textResults : TextAnswer → ℕ × ℤ × Stamp
+textResults (Read x z) = (0, x, z)
+textResults (Refused why) = (number why, pos 0, noStamp)
 
 -- ---- writing
 

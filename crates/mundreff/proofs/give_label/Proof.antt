@@ -5,7 +5,7 @@ use mathlib.Core.List.{List}
 use Prim.Native.Nat.{ℕ}
 use lib.ListN.{replicate}
 use borrow.Author.Needs.{needs}
-use Rattle.mundreff.specs.Answers.{tickResults}
+use Rattle.mundreff.specs.Answers.{labelNumbers}
 use Rattle.mundreff.proofs.Results.{refused}
 use Rattle.mundreff.proofs.give_label.Statement.{statement}
 use Rattle.mundreff.proofs.give_label.Tie as tie
@@ -18,5 +18,5 @@ give-label-spec =
     (λ c κs. search needs)
     (λ c. search needs)
     (λ c κs. search needs)
-    (λ c. ap (λ (l : List ℕ). (0, l)) (c .store-label .ensures) ∙ ap tickResults (sym (c .before .before .before .a .given .1)))
-    (λ c. refused tickResults (λ (n : ℕ). (n, replicate 6 0)) (c .number-of .ensures) refl (c .before .before .before .a2 .given .1)))
+    (λ c. ap (λ (l : List ℕ). (0, l)) (c .store-label .ensures) ∙ ap labelNumbers (sym (c .before .before .before .a .given .1)))
+    (λ c. refused labelNumbers (λ (n : ℕ). (n, replicate 6 0)) (c .number-of .ensures) refl (c .before .before .before .a2 .given .1)))

@@ -3,7 +3,7 @@
 use mathlib.Core.Path.{refl}
 use Prim.Native.Nat.{ℕ}
 use borrow.Author.Needs.{needs}
-use Rattle.mundreff.specs.Answers.{writtenResults}
+use Rattle.answer.specs.Buffers.{writtenResults}
 use Rattle.mundreff.proofs.Results.{refused}
 use Rattle.mundreff.proofs.give_length.Statement.{statement}
 use Rattle.mundreff.proofs.give_length.Tie as tie

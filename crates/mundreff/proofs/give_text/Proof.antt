@@ -8,7 +8,7 @@ use lib.ListN.{replicate}
 use mir.Syntax.{w64}
 use mir.Facts.{toZ-ofZ}
 use borrow.Author.Needs.{needs}
-use Rattle.mundreff.specs.Answers.{textResults}
+use Rattle.mundreff.specs.Answers.{textNumbers}
 use Rattle.mundreff.proofs.Results.{refused}
 use Rattle.mundreff.proofs.give_text.Statement.{statement}
 use Rattle.mundreff.proofs.give_text.Tie as tie
@@ -24,5 +24,5 @@ give-text-spec =
     (λ c.
     let k = c .before .before in
     ap₂ (λ (x : ℤ) (l : List ℕ). (0, x, l)) (toZ-ofZ {w = w64} (record { sfits = k .known-told .given .0 .1 })) (c .store-stamp .ensures)
-    ∙ ap textResults (sym (k .before .a .given .1)))
-    (λ c. refused textResults (λ (n : ℕ). (n, pos 0, replicate 8 0)) (c .number-of .ensures) refl (c .before .before .before .a2 .given .1)))
+    ∙ ap textNumbers (sym (k .before .a .given .1)))
+    (λ c. refused textNumbers (λ (n : ℕ). (n, pos 0, replicate 8 0)) (c .number-of .ensures) refl (c .before .before .before .a2 .given .1)))

@@ -5,7 +5,7 @@ use Rattle.leap.specs.declared.Table.{Table}
 use Rattle.stamp.specs.declared.Reading.{Reading}
 use borrow.Author.Needs.{needs}
 use Rattle.stamp.specs.Instants.{instantAnswer}
-use Rattle.mundreff.specs.Answers.{instantResults}
+use Rattle.stamp.specs.Instants.{instantResults}
 use Rattle.mundreff.specs.Calls.{scaleFrom}
 use Rattle.mundreff.proofs.Results.{said}
 use Rattle.mundreff.proofs.mundreff_instant_of.Statement.{statement}

@@ -4,7 +4,7 @@ use mathlib.Core.Path.{ap, _∙_}
 use borrow.Author.Needs.{needs}
 use Rattle.leap.specs.declared.Table.{Table}
 use Rattle.text.specs.Text.{textAnswer}
-use Rattle.mundreff.specs.Answers.{textResults}
+use Rattle.mundreff.specs.Answers.{textNumbers}
 use Rattle.mundreff.proofs.Results.{said}
 use Rattle.mundreff.proofs.mundreff_read_text.Statement.{statement}
 use Rattle.mundreff.proofs.mundreff_read_text.Tie as tie
@@ -20,5 +20,5 @@ mundreff-read-text-spec =
     let r = c .before .before .before in
     let t = r .before in
     let a = t .before .before .args in
-    said textResults (c .give-text .ensures)
+    said textNumbers (c .give-text .ensures)
     (r .read-text .ensures ∙ ap (λ (u : Table). textAnswer u (a .scale) (a .text .now)) (t .table-of .ensures))))

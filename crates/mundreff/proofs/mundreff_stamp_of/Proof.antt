@@ -6,7 +6,7 @@ use mir.Facts.{toZ-ofZ}
 use Rattle.leap.specs.declared.Table.{Table}
 use borrow.Author.Needs.{needs}
 use Rattle.stamp.specs.Stamps.{stampAnswer}
-use Rattle.mundreff.specs.Answers.{stampResults}
+use Rattle.mundreff.specs.Answers.{stampNumbers}
 use Rattle.mundreff.proofs.Results.{said}
 use Rattle.mundreff.proofs.mundreff_stamp_of.Statement.{statement}
 use Rattle.mundreff.proofs.mundreff_stamp_of.Tie as tie
@@ -21,6 +21,6 @@ mundreff-stamp-of-spec =
     (λ c.
     let t = c .before .before .before in
     let a = t .before .args in
-    said stampResults (c .give-stamp .ensures)
+    said stampNumbers (c .give-stamp .ensures)
     (c .before .before .stamp-of .ensures
     ∙ ap₂ (λ (u : Table) (x : ℤ). stampAnswer u x (a .scale)) (t .table-of .ensures) (toZ-ofZ (t .before .fits .instant)))))

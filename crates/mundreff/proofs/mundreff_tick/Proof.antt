@@ -3,7 +3,7 @@
 use mathlib.Core.Path.{ap₂, _∙_}
 use borrow.Author.Needs.{needs}
 use Rattle.clock.specs.Clock.{tickAnswer}
-use Rattle.mundreff.specs.Answers.{tickResults}
+use Rattle.mundreff.specs.Answers.{labelNumbers}
 use Rattle.mundreff.proofs.Results.{said}
 use Rattle.mundreff.proofs.mundreff_tick.Statement.{statement}
 use Rattle.mundreff.proofs.mundreff_tick.Tie as tie
@@ -16,4 +16,4 @@ mundreff-tick-spec =
     (λ c κs. search needs)
     (λ c κs. search needs)
     (λ c κs. search needs)
-    (λ c. let b = c .before .before .before in said tickResults (c .give-label .ensures) (c .before .before .tick .ensures ∙ ap₂ tickAnswer (b .before .table-of .ensures) (b .label-of .ensures))))
+    (λ c. let b = c .before .before .before in said labelNumbers (c .give-label .ensures) (c .before .before .tick .ensures ∙ ap₂ tickAnswer (b .before .table-of .ensures) (b .label-of .ensures))))

@@ -3,7 +3,7 @@
 use mathlib.Core.Path.{ap, _∙_}
 use Rattle.leap.specs.declared.Table.{Table}
 use borrow.Author.Needs.{needs}
-use Rattle.mundreff.specs.Answers.{writtenResults}
+use Rattle.answer.specs.Buffers.{writtenResults}
 use Rattle.mundreff.specs.Calls.{blockWritten, blockAfter}
 use Rattle.mundreff.proofs.Results.{said}
 use Rattle.mundreff.proofs.mundreff_write_block.Statement.{statement}

@@ -6,7 +6,7 @@ use mir.Facts.{toZ-ofZ}
 use Rattle.leap.specs.declared.Table.{Table}
 use borrow.Author.Needs.{needs}
 use Rattle.julian.specs.Dates.{julianAnswer}
-use Rattle.mundreff.specs.Answers.{julianResults}
+use Rattle.mundreff.specs.Answers.{pairNumbers}
 use Rattle.mundreff.proofs.Results.{said}
 use Rattle.mundreff.proofs.mundreff_write_julian.Statement.{statement}
 use Rattle.mundreff.proofs.mundreff_write_julian.Tie as tie
@@ -22,6 +22,6 @@ mundreff-write-julian-spec =
     let d = c .before .before .before in
     let t = d .before in
     let a = t .before .args in
-    said julianResults (c .give-pair .ensures)
+    said pairNumbers (c .give-pair .ensures)
     (d .write-julian .ensures
     ∙ ap₂ (λ (u : Table) (x : ℤ). julianAnswer u x (a .scale)) (t .table-of .ensures) (toZ-ofZ (t .before .fits .instant)))))

@@ -6,7 +6,7 @@ use mir.Facts.{toZ-ofZ}
 use borrow.Author.Needs.{needs}
 use Rattle.leap.specs.declared.Table.{Table}
 use Rattle.text.specs.Text.{writeAnswer, bufferThen}
-use Rattle.mundreff.specs.Answers.{writtenResults}
+use Rattle.answer.specs.Buffers.{writtenResults}
 use Rattle.mundreff.proofs.Results.{said}
 use Rattle.mundreff.proofs.mundreff_write_text.Statement.{statement}
 use Rattle.mundreff.proofs.mundreff_write_text.Tie as tie
