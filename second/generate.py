@@ -2,7 +2,7 @@
 """Lines for the program `calls`, good and damaged, weighted to the edges.
 
     generate.py SEED COUNT     COUNT random lines
-    generate.py stored         the stored input: the rows of document 01, all of Bulletin C,
+    generate.py stored         the stored input: the rows of the scope, all of Bulletin C,
                                each kind of edge in turn, then random lines with a fixed seed
 
 The protocol has no comments, but a line that is no call answers `?`, so lines
@@ -729,7 +729,7 @@ def text_line(scale, text):
 
 
 def worked_on_the_night_desk():
-    """Document 01's rows, in its order, each with its row as a heading."""
+    """The scope's rows, in its order, each with its row as a heading."""
     rows = (
         ('P: B, UTC 1972-01-01T00:00:00 gives -883,655,990', BULLETIN, text_line(UTC, '1972-01-01T00:00:00')),
         ('P: T, UTC 1972-06-30T23:59:60 gives -867,931,190', T, text_line(UTC, '1972-06-30T23:59:60')),

@@ -1,10 +1,10 @@
 #!/usr/bin/env python3
 """The second program of Mundreff: the same answers, found another way.
 
-It is written from the text of the scope (document 01, "What to build and its
-rules") and not from the Rattle code or its proofs, so that an error has to be
-made twice to pass unseen.  Python 3, standard library only.  Each section
-below is a section of document 01; the last two are the programs.
+It is written from the text of the scope ("What to build and its rules") and
+not from the Rattle code or its proofs, so that an error has to be made twice
+to pass unseen.  Python 3, standard library only.  Each section below is a
+section of the scope; the last two are the programs.
 
     second.py              answers the lines of the program `calls` (stdin to stdout)
     second.py ticks        prints the listing of the program `ticks`

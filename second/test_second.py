@@ -1,7 +1,7 @@
 #!/usr/bin/env python3
 """Self-checks of the second program: python3 test_second.py
 
-Expected answers are written by hand from document 01 and from the readings of
+Expected answers are written by hand from the scope and from the readings of
 its silent places, not taken from the program.
 """
 
@@ -61,7 +61,7 @@ def expect_julian(midnight, fraction, answer, scale=TAI, table=B_LINE):
 
 
 # ---------------------------------------------------------------------------
-# Document 01
+# The scope
 
 def test_worked_on_the_night_desk():
     expect_text(UTC, '1972-01-01T00:00:00', -883_655_990_000_000, '1972 1 1 0 0 0 0')
@@ -140,22 +140,22 @@ def test_ticks_reads_three_lines_only():
 
 
 # ---------------------------------------------------------------------------
-# The readings, by their numbers
+# What the scope leaves open, as docs/DECISIONS.md settles it
 
 def test_readings_of_instants():
     ends = {UTC: (-883_655_990_000_000, 252_455_572_836_999_999), TAI: (-883_656_000_000_000, 252_455_572_799_999_999),
             TDT: (-883_656_032_184_000, 252_455_572_767_815_999), GPS: (-883_655_981_000_000, 252_455_572_818_999_999)}
-    for scale, (first, last) in ends.items():  # 1
+    for scale, (first, last) in ends.items():
         expect(f'stamp_of {first} {scale}', f'0 {scale} 1972 1 1 0 0 0 0')
         expect(f'stamp_of {last} {scale}', f'0 {scale} 9999 12 31 23 59 59 999999')
-        for outside in (first - 1, last + 1, -2**63, 2**63 - 1):  # 2
+        for outside in (first - 1, last + 1, -2**63, 2**63 - 1):
             expect(f'stamp_of {outside} {scale}', '7 0 0 0 0 0 0 0 0')
             expect(f'write_julian {outside} {scale}', '7 0000000000000000 0000000000000000')
-    down = 'table 64 64 0 10 ' + ' '.join(f'{month} {10 - month}' for month in range(1, 64))  # 3
+    down = 'table 64 64 0 10 ' + ' '.join(f'{month} {10 - month}' for month in range(1, 64))
     expect('stamp_of 252455572746999999 0', '0 0 9999 12 31 23 59 59 999999', down)
     expect('stamp_of 252455572747000000 0', '7 0 0 0 0 0 0 0 0', down)
-    expect('instant_of 4294967295 0 0 0 99 99 99 1000000', '8 0')  # 4
-    expect('stamp_of 0 4', '8 0 0 0 0 0 0 0 0')  # 5
+    expect('instant_of 4294967295 0 0 0 99 99 99 1000000', '8 0')
+    expect('stamp_of 0 4', '8 0 0 0 0 0 0 0 0')
 
 
 def test_readings_of_tables():
@@ -163,9 +163,9 @@ def test_readings_of_tables():
                   'table 1 1 1 10', 'table 1 1 0 9', 'table 2 2 0 10 0 11', 'table 3 3 0 10 6 11 6 12', 'table 3 3 0 10 6 11 5 12',
                   'table 2 2 0 10 6 10', 'table 2 2 0 10 6 12', 'table 2 2 0 10 6 8', 'table 2 2 0 10 96336 11', 'table 1 2 0 10 0 1',
                   'table 1 2 0 10 1 0', 'table 1 64 0 10' + ' 0 0' * 62 + ' 0 1', 'table 2 2 0 10 4294967295 11',
-                  'table 3 3 0 10 1 2147483647 2 -2147483648'):  # 9
+                  'table 3 3 0 10 1 2147483647 2 -2147483648'):
         expect('start', '11 0 0 0 0 0 0', table)
-        expect('tick 0 0 0 0 0 0', '11 0 0 0 0 0 0', table)  # 10
+        expect('tick 0 0 0 0 0 0', '11 0 0 0 0 0 0', table)
         expect('write_block 2', '11 0 a5a5', table)
         expect('stamp_of 0 1', '11 0 0 0 0 0 0 0 0', table)
         expect('stamp_of 0 4', '8 0 0 0 0 0 0 0 0', table)
@@ -175,15 +175,15 @@ def test_readings_of_tables():
         expect('write_text 0 3 1 0 0', '8 0 -', table)
         expect('read_julian 4 7ff8000000000000 7ff8000000000000', '8 0', table)
         expect('read_julian 1 7ff8000000000000 7ff8000000000000', '11 0', table)
-    for table in ('table 1 1 0 10', 'table 1 64 0 10' + ' 0 0' * 63, 'table 2 2 0 10 96335 9', 'table 3 3 0 10 1 11 2 10'):  # 8
+    for table in ('table 1 1 0 10', 'table 1 64 0 10' + ' 0 0' * 63, 'table 2 2 0 10 96335 9', 'table 3 3 0 10 1 11 2 10'):
         expect('start', '0 1972 1 1 0 0 0', table)
 
 
 def test_readings_of_the_clock():
-    expect('tick 9999 12 31 23 59 60', '6 0 0 0 0 0 0')  # 12
+    expect('tick 9999 12 31 23 59 60', '6 0 0 0 0 0 0')
     expect('tick 10000 1 1 0 0 0', '3 0 0 0 0 0 0')
     expect('tick 1971 13 1 0 0 0', '3 0 0 0 0 0 0')
-    expect('tick 1972 6 30 12 30 60', '6 0 0 0 0 0 0')  # 13
+    expect('tick 1972 6 30 12 30 60', '6 0 0 0 0 0 0')
     expect('tick 2016 12 31 23 58 60', '6 0 0 0 0 0 0')
     expect('tick 2016 12 31 23 58 59', '0 2016 12 31 23 59 0')
     expect('tick 2016 12 30 23 59 60', '6 0 0 0 0 0 0')
@@ -196,8 +196,8 @@ def test_readings_of_blocks():
                                  ('808000', 10, 0), ('C100', 10, 0), ('8000', 10, 0), ('00', 11, 0), ('0200', 11, 1), ('0201', 11, 1),
                                  ('02A0E10B', 11, 1), ('02A1E10B', 11, 1), ('0180', 12, 1), ('01808080', 12, 1), ('030C', 9, 2),
                                  ('030C8000', 10, 2), ('02FFFFFF', 10, 1), ('02FFFF7F', 11, 1), ('8101', 11, 0), ('020C00', 12, 2)):
-        expect(f'read_block {block}', f'{number} {place} 0 0')  # 17 to 21
-    expect('read_block 029EE10B', '0 0 2 2 0 10 96335 11')  # 20, 23
+        expect(f'read_block {block}', f'{number} {place} 0 0')
+    expect('read_block 029EE10B', '0 0 2 2 0 10 96335 11')
     expect('read_block 029fe10b', '0 0 2 2 0 10 96335 9')
     expect('write_block 3', '1 0 a5a5a5', 'table 2 2 0 10 96335 9')
     expect('write_block 5', '0 4 029fe10ba5', 'table 2 2 0 10 96335 9')
@@ -205,7 +205,7 @@ def test_readings_of_blocks():
 
 def test_readings_of_texts():
     months = ('JAN', 'FEB', 'MAR', 'APR', 'MAY', 'JUN', 'JUL', 'AUG', 'SEP', 'OCT', 'NOV', 'DEC')
-    for number, name in enumerate(months, 1):  # 24
+    for number, name in enumerate(months, 1):
         ok = answers(text_call(UTC, f'1999 {name} 02 03:04:05'))[0]
         assert ok.endswith(f' 0 1999 {number} 2 3 4 5 0') and ok.startswith('0 '), ok
     for text in ('', '.', '1986 Apr 12 16:31:09', '1986 APX 12 16:31:09', '1986-04-12T16:31:09.', '1986-04-12T16:31:09.1234567',
@@ -213,55 +213,55 @@ def test_readings_of_texts():
                  '1986 APR 5 16:31:09', '1986-04-12T16:31:09\n', '1986-04-12T16:31:09Z', ' 1986-04-12T16:31:09', '1986-04-12t16:31:09',
                  '1986-04-12 16:31:09', '1971-13-32T24:60:61.', '\xef\xbb\xbf1986-04-12T16:31:09',
                  '1986-04-12T16:31:09\x00', '1986-04-12T16:31:0\xb2'):
-        expect_refusal(UTC, text, 2)  # 25 to 27
+        expect_refusal(UTC, text, 2)
     for text, number in (('1971-13-01T24:00:00', 3), ('1972-13-01T24:00:00', 4), ('1972-366T24:00:00', 5), ('1973-366T24:00:00', 4),
                          ('1972-000T24:00:00', 4), ('1971-000T00:00:00', 3), ('1972-06-30T24:59:60', 5), ('1972-02-30T00:00:00', 4),
                          ('1972-06-30T12:30:60', 6), ('1972-06-30T23:59:61', 5), ('2016-06-30T23:59:60', 6), ('1972-06-29T23:59:60', 6)):
-        expect_refusal(UTC, text, number)  # 28 to 30
+        expect_refusal(UTC, text, number)
     expect_refusal(GPS, '1972-06-30T12:30:60', 5)
-    expect_text(UTC, '2016-366T23:59:60.5', 536_500_836_500_000, '2016 12 31 23 59 60 500000')  # 31
-    expect('instant_of 0 1972 6 30 12 30 60 1000000', '5 0')  # 32
+    expect_text(UTC, '2016-366T23:59:60.5', 536_500_836_500_000, '2016 12 31 23 59 60 500000')
+    expect('instant_of 0 1972 6 30 12 30 60 1000000', '5 0')
     expect('instant_of 0 10000 6 30 12 30 60 1000000', '3 0')
     expect('instant_of 0 1972 6 30 23 59 60 999999', '0 -867931189000001')
 
 
 def test_readings_of_written_texts():
-    expect('write_text 9223372036854775807 0 1 0 0', '7 0 -')  # 33
+    expect('write_text 9223372036854775807 0 1 0 0', '7 0 -')
     expect('write_text 0 3 1 0 2', '8 0 a5a5')
     expect('write_text 0 0 1 7 2', '8 0 a5a5')
-    expect('write_text 0 0 1 0 18', '1 0 ' + 'a5' * 18)  # 34
+    expect('write_text 0 0 1 0 18', '1 0 ' + 'a5' * 18)
     expect('write_text 0 1 1 0 18', '0 17 ' + b'2000-001T12:00:00'.hex() + 'a5')
-    expect_written(-1, 0, TAI, 6, '2000-01-01T11:59:59.999999')  # 35
+    expect_written(-1, 0, TAI, 6, '2000-01-01T11:59:59.999999')
     expect_written(-1, 2, TAI, 1, '2000 JAN 01 11:59:59.9')
     expect_written(536_500_836_999_999, 0, UTC, 3, '2016-12-31T23:59:60.999')
     expect_written(536_500_836_999_999, 1, UTC, 0, '2016-366T23:59:60')
 
 
 def test_readings_of_julian_dates():
-    for pair_of in (536_500_836_250_000, 536_500_837_250_000):  # 36
+    for pair_of in (536_500_836_250_000, 536_500_837_250_000):
         expect(f'write_julian {pair_of} 0', f'0 {bits(2457754.5)} {bits(250_000 / 86_400_000_000)}')
     expect_julian(2457754.5, 250_000 / 86_400_000_000, '0 536500837250000', UTC)
     noon = 43_200_000_000
-    expect_julian(2451544.5, float.fromhex('0x1.b26c2e8aee24fp-3'), f'0 {18_327_202_812 - noon}')  # 37
-    expect_julian(2451544.5, 1 / 16384, f'0 {5_273_438 - noon}')  # 38
+    expect_julian(2451544.5, float.fromhex('0x1.b26c2e8aee24fp-3'), f'0 {18_327_202_812 - noon}')
+    expect_julian(2451544.5, 1 / 16384, f'0 {5_273_438 - noon}')
     expect_julian(2451544.5, 3 / 16384, f'0 {15_820_313 - noon}')
-    for midnight in (-0.5, 0.5, 4294967296.5, 2.0**51 + 0.5, 2441316.5, 5373484.5):  # 39
+    for midnight in (-0.5, 0.5, 4294967296.5, 2.0**51 + 0.5, 2441316.5, 5373484.5):
         expect_julian(midnight, 0.5, '7 0')
     for midnight in (-0.0, 2451545.0, 2451544.25, 2.0**52, float('inf'), float('-inf'), float('nan')):
         expect_julian(midnight, 0.5, '13 0')
     smallest = struct.unpack('>d', bytes(7) + b'\x01')[0]
     for fraction, answer in ((-0.0, f'0 {-noon}'), (-smallest, '13 0'), (smallest, f'0 {-noon}'), (1 - 2.0**-53, f'0 {noon}'),
-                             (1.0, '13 0'), (float('nan'), '13 0'), (float('inf'), '13 0')):  # 40
+                             (1.0, '13 0'), (float('nan'), '13 0'), (float('inf'), '13 0')):
         expect_julian(2451544.5, fraction, answer)
-    expect_julian(0.5, 1.0, '13 0')  # 41
-    expect_julian(5373483.5, 1 - 2.0**-53, '7 0')  # 42
+    expect_julian(0.5, 1.0, '13 0')
+    expect_julian(5373483.5, 1 - 2.0**-53, '7 0')
     expect_julian(5373483.5, 86_399_999_999 / 86_400_000_000, '0 252455572799999999')
-    last = 86_399_000_000  # 43
+    last = 86_399_000_000
     expect_julian(2441498.5, (last - 0.5) / 86_400_000_000 + 2.0**-53, '6 0', UTC, N_LINE)
     expect_julian(2441498.5, (last - 0.5) / 86_400_000_000 - 2.0**-52, '0 -867931191000001', UTC, N_LINE)
     expect_julian(2441498.5, 86_399_999_999 / 86_400_000_000, '6 0', UTC, N_LINE)
     expect_julian(2441498.5, 1 - 2.0**-53, '0 -867931191000000', UTC, N_LINE)
-    expect('write_julian -43200000000 1', '0 4142b42c40000000 0000000000000000')  # 46
+    expect('write_julian -43200000000 1', '0 4142b42c40000000 0000000000000000')
 
 
 def test_fraction_is_rounded_once():

@@ -1,4 +1,4 @@
--- The refusals: document 01's number of each, and the order in which a call judges them.
+-- The refusals: the scope's number of each, and the order in which a call judges them.
 -- Assumes nothing.
 use mathlib.Core.Bool.{Bool, true, cond, _&&_}
 use mathlib.Core.List.{List, [], _∷_}

@@ -5,7 +5,7 @@ ghost use mathlib.Core.List.{[]};
 ghost use Rattle.answer.specs.Refusals.{number};
 ghost use Rattle.answer.specs.Buffers.{written, bufferAfter};
 
-// Document 01's thirteen, in its order.
+// The scope's thirteen, in its order.
 pub enum Refusal {
     Room,
     Shape,
@@ -28,7 +28,7 @@ pub enum Written {
     Refused(Refusal),
 }
 
-// Document 01's number of a refusal.
+// The scope's number of a refusal.
 pub fn number_of(why: Refusal) -> u32
     ensures { λ r. ⌜ r ≡ number why ⌝ }
 {

@@ -191,7 +191,7 @@ found-is s t h e = go refl (was-number 0 countFine rest t (readNumber s) e)
     go : {r : NumberAnswer} → readNumber s ≡ r → Numbered countFine rest t r → Good t × (blockOf t ≡ s)
     go q (numbered n size g e) = let b = count-fine n g in count-only h q g (entries-only (n - 1) 0 size (firstTable n) t (drop size s) (omega arith) (bytes-drop size s h) (ends-first n) e)
 
--- ---- in document 01's numbers
+-- ---- in the scope's numbers
 
 success : (r : BlockRead) (t : Table) → blockResults r ≡ (0, 0, t) → r ≡ found t
 success r t e = go (r .answer) (r .table) e

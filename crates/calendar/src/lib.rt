@@ -26,7 +26,7 @@ pub enum YearDate {
 
 // ---- months
 
-pub fn is_leap(year: u32) -> bool
+fn is_leap(year: u32) -> bool
     ensures { λ r. ⌜ r ≡ leapYear year ⌝ }
 {
     if year % 4 != 0 {
@@ -89,7 +89,7 @@ pub fn month_of_day(day: u32) -> Span
 }
 
 // The month and the day of the month of a day.
-pub fn month_day(day: u32) -> MonthDay
+fn month_day(day: u32) -> MonthDay
     ensures { λ r. ⌜ r ≡ monthDay day ⌝ }
 {
     let span = month_of_day(day);

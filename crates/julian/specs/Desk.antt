@@ -1,4 +1,4 @@
--- The night desk's Julian row, document 01's midnights, and doubles that are easily read otherwise.
+-- The night desk's Julian row, the scope's midnights, and doubles that are easily read otherwise.
 -- Assumes nothing.
 use mathlib.Core.Path.{_≡_}
 use mathlib.Core.Bool.{true, false}

@@ -1,4 +1,4 @@
--- The table of Bulletin C is accepted, and gives TAI-UTC as document 01 lists it: by Januaries, then by Julies.
+-- The table of Bulletin C is accepted, and gives TAI-UTC as the scope lists it: by Januaries, then by Julies.
 -- Assumes nothing.
 use mathlib.Core.Path.{_≡_, refl}
 use mathlib.Core.Bool.{true}

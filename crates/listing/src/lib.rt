@@ -83,7 +83,7 @@ fn no_block() -> BlockRead
 }
 
 // The first line: a block in hex.
-pub fn block_line(line: &[u8]) -> BlockRead
+fn block_line(line: &[u8]) -> BlockRead
     ensures { λ r. ⌜ r ≡ blockLine (now (line .entry)) ⌝ }
 {
     if 1024 < line.len() {
@@ -99,7 +99,7 @@ pub fn block_line(line: &[u8]) -> BlockRead
 }
 
 // The second line: a UTC stamp without fraction.
-pub fn stamp_line(t: Table, line: &[u8]) -> TextAnswer
+fn stamp_line(t: Table, line: &[u8]) -> TextAnswer
     ensures { λ r. ⌜ r ≡ stampLine t (now (line .entry)) ⌝ }
 {
     if 1024 < line.len() {
@@ -112,7 +112,7 @@ pub fn stamp_line(t: Table, line: &[u8]) -> TextAnswer
 }
 
 // The third line: a count up to 3600.
-pub fn count_line(line: &[u8]) -> CountAnswer
+fn count_line(line: &[u8]) -> CountAnswer
     ensures { λ r. ⌜ r ≡ countLine (now (line .entry)) ⌝ }
 {
     if 1024 < line.len() {

@@ -80,7 +80,7 @@ impl Scale {
         Scale::Gps
     }
 
-    // Its number in document 01.
+    // Its number in the scope.
     pub fn number(self) -> u32
         ensures { λ r. ⌜ r ≡ scaleNumber self ⌝ }
     {

@@ -37,7 +37,7 @@ pub record Pictured (text : List ℕ) : Type 0 where
 abbrev pub Determined : Type 0
 Determined = (f g : Fields) → WellFormed f → WellFormed g → pictureText f ≡ pictureText g → f ≡ g
 
--- how long a text is: document 01's length of its picture, and the point with its digits
+-- how long a text is: the scope's length of its picture, and the point with its digits
 abbrev pub Sized : Type 0
 Sized = (p digits : ℕ) (r : Reading) → p ≤ 2 → digits ≤ 6 → length (textOf p digits r) ≡ getD (19 ∷ 17 ∷ 20 ∷ []) p 0 + cond (eqb digits 0) 0 (1 + digits)
 
