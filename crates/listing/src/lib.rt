@@ -127,6 +127,7 @@ fn count_line(line: &[u8]) -> CountAnswer
 
 // ---- what is printed
 
+// Exact: a listed instant is a whole number of seconds.
 fn seconds(instant: i64) -> i64
     ensures { λ r. ⌜ r ≡ quotZ instant (pos 1000000) ⌝ }
 {
