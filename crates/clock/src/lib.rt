@@ -118,7 +118,7 @@ fn tick_in<'a>(count: usize, months: &'a [u32; 64], offsets: &'a [i32; 64], l: L
 pub fn start(t: Table) -> TickAnswer
     ensures { λ r. ⌜ r ≡ startAnswer t ⌝ }
 {
-    if !leap::is_accepted(t) {
+    if !leap::is_accepted_in(t.count, &t.months, &t.offsets) {
         return TickAnswer::Refused(Refusal::Table);
     }
     shown(1972, 1, 1, 0, 0, 0)
@@ -127,7 +127,7 @@ pub fn start(t: Table) -> TickAnswer
 pub fn tick(t: Table, l: Label) -> TickAnswer
     ensures { λ r. ⌜ r ≡ tickAnswer t l ⌝ }
 {
-    if !leap::is_accepted(t) {
+    if !leap::is_accepted_in(t.count, &t.months, &t.offsets) {
         return TickAnswer::Refused(Refusal::Table);
     }
     let count = t.count;

@@ -278,7 +278,7 @@ pub fn instant_of(t: Table, scale: u32, r: Reading) -> InstantAnswer
     if 3 < scale {
         return InstantAnswer::Refused(Refusal::Ask);
     }
-    if !leap::is_accepted(t) {
+    if !leap::is_accepted_in(t.count, &t.months, &t.offsets) {
         return InstantAnswer::Refused(Refusal::Table);
     }
     let count = t.count;
@@ -427,7 +427,7 @@ pub fn stamp_of(t: Table, instant: i64, scale: u32) -> StampAnswer
     if 3 < scale {
         return StampAnswer::Refused(Refusal::Ask);
     }
-    if !leap::is_accepted(t) {
+    if !leap::is_accepted_in(t.count, &t.months, &t.offsets) {
         return StampAnswer::Refused(Refusal::Table);
     }
     let count = t.count;

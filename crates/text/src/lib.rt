@@ -419,7 +419,7 @@ pub fn read_text(t: Table, scale: u32, text: &[u8]) -> TextAnswer
     if 3 < scale {
         return TextAnswer::Refused(Refusal::Ask);
     }
-    if !leap::is_accepted(t) {
+    if !leap::is_accepted_in(t.count, &t.months, &t.offsets) {
         return TextAnswer::Refused(Refusal::Table);
     }
     let f = guess(text);

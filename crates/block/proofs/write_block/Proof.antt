@@ -12,12 +12,12 @@ pub write-block-spec : {M : Type 1} → statement M
 write-block-spec =
     tie.close
     (tie.spec
-    -- is-accepted-requires
+    -- is-accepted-in-requires
     (λ c κs. search needs)
     -- returns
-    (λ c. let p = fails (c .before .is-accepted .ensures) (c .if1 .taken) in (cond-rest _ p refl, cond-rest _ p refl))
+    (λ c. let p = fails (c .before .is-accepted-in .ensures) (c .if1 .taken) in (cond-rest _ p refl, cond-rest _ p refl))
     -- block-of-requires
-    (λ c κs. holds (c .before .before .before .before .is-accepted .ensures) (c .before .before .before .if1 .left))
+    (λ c κs. holds (c .before .before .before .before .is-accepted-in .ensures) (c .before .before .before .if1 .left))
     -- array-share-prefix-bytes
     (λ c. search needs)
     -- slice-aggregate-write
@@ -30,6 +30,6 @@ write-block-spec =
     (λ c.
     let b = c .before .before .before .before .before .before in
     let f = b .before .before .before .before in
-    let p = holds (f .before .is-accepted .ensures) (f .if1 .left) in
+    let p = holds (f .before .is-accepted-in .ensures) (f .if1 .left) in
     let w = rw (b .block-of .ensures .0) at (c .before .before .write .ensures) in
     (cond-yes _ p (w .0), cond-yes _ p (w .1))))

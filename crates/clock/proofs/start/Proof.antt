@@ -13,6 +13,6 @@ start-spec =
     tie.close
     (tie.spec
     (λ c κs. search needs)
-    (λ c. refused _ _ (fails (c .before .is-accepted .ensures) (c .if1 .taken)))
+    (λ c. refused _ _ (fails (c .before .is-accepted-in .ensures) (c .if1 .taken)))
     (λ c κs. search needs)
-    (λ c. passed _ (holds (c .before .before .is-accepted .ensures) (c .before .if1 .left)) (c .shown .ensures)))
+    (λ c. passed _ (holds (c .before .before .is-accepted-in .ensures) (c .before .if1 .left)) (c .shown .ensures)))

@@ -13,7 +13,7 @@ tick-spec =
     tie.close
     (tie.spec
     (λ c κs. search needs)
-    (λ c. refused _ _ (fails (c .before .is-accepted .ensures) (c .if1 .taken)))
+    (λ c. refused _ _ (fails (c .before .is-accepted-in .ensures) (c .if1 .taken)))
     (λ c κs. search needs)
     (λ c. let e = c .before .before .before .before in
-    passed _ (holds (e .before .is-accepted .ensures) (e .if1 .left)) (c .tick-in .ensures)))
+    passed _ (holds (e .before .is-accepted-in .ensures) (e .if1 .left)) (c .tick-in .ensures)))

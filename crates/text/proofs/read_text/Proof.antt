@@ -25,7 +25,7 @@ use Rattle.text.proofs.read_text.Tie as tie
 
 -- what is looked at, from where `stamp` has answered
 abbrev start : tie.After-instant-in → tie.Start
-start c = c .before .before .before .before .before .before .before .before .before .before .before .before .before
+start c = c .before .before .before .before .before .before .before .before .before .before .before .before .before .before .before .before
 
 abbrev table : tie.After-instant-in → Table
 table c = start c .args .t1
@@ -46,13 +46,13 @@ reading c = c .before .before .before .before .before .reading-of .result
 scale-known : (c : tie.Else1) → leb (c .before .before .args .scale) 3 ≡ true
 scale-known c = le-leb _ _ (c .if1 .left)
 
-table-good : (c : tie.Else2) → accepted (c .before .before .before .before .args .t1) ≡ true
-table-good c = holds (c .before .is-accepted .ensures) (c .if2 .left)
+table-good : (c : tie.Else2) → accepted (c .before .before .before .before .before .before .before .args .t1) ≡ true
+table-good c = holds (c .before .is-accepted-in .ensures) (c .if2 .left)
 
-judged : (c : tie.After-is-text-of) → c .is-text-of .result ≡ hasPicture (c .before .before .before .before .before .before .args .text .now)
-judged c = c .is-text-of .ensures ∙ ap (λ (f : Fields). isTextOf f (c .before .before .before .before .before .before .args .text .now)) (c .before .guess .ensures)
+judged : (c : tie.After-is-text-of) → c .is-text-of .result ≡ hasPicture (c .before .before .before .before .before .before .before .before .before .args .text .now)
+judged c = c .is-text-of .ensures ∙ ap (λ (f : Fields). isTextOf f (c .before .before .before .before .before .before .before .before .before .args .text .now)) (c .before .guess .ensures)
 
-has-shape : (c : tie.Else3) → hasPicture (c .before .before .before .before .before .before .before .args .text .now) ≡ true
+has-shape : (c : tie.Else3) → hasPicture (c .before .before .before .before .before .before .before .before .before .before .args .text .now) ≡ true
 has-shape c = holds (judged (c .before)) (c .if3 .left)
 
 returns : tie.Need-returns
@@ -61,13 +61,13 @@ returns c = refused _ _ (lt-leb _ _ (c .if1 .taken))
 
 returns-2 : tie.Need-returns-2
 unfolding textAnswer
-returns-2 c = passed _ (scale-known (c .before .before)) (refused _ _ (fails (c .before .is-accepted .ensures) (c .if2 .taken)))
+returns-2 c = passed _ (scale-known (c .before .before .before .before .before)) (refused _ _ (fails (c .before .is-accepted-in .ensures) (c .if2 .taken)))
 
 returns-3 : tie.Need-returns-3
 unfolding textAnswer
 returns-3 c =
     let e2 = c .before .before .before in
-    passed _ (scale-known (e2 .before .before)) (passed _ (table-good e2) (refused _ _ (fails (judged (c .before)) (c .if3 .taken))))
+    passed _ (scale-known (e2 .before .before .before .before .before)) (passed _ (table-good e2) (refused _ _ (fails (judged (c .before)) (c .if3 .taken))))
 
 -- the answer to a well-shaped text, from the answer of `stamp`
 shaped : (c : tie.After-instant-in) {r : TextAnswer} → r ≡ readAnswer (table c) (scale c) (reading c) → r ≡ textAnswer (table c) (asked-scale c) (text c)
@@ -76,7 +76,7 @@ shaped c e =
     let n = c .before .before .before .before in
     let e3 = n .before .before in
     let e2 = e3 .before .before .before in
-    passed _ (scale-known (e2 .before .before)) (passed _ (table-good e2) (passed _ (has-shape e3)
+    passed _ (scale-known (e2 .before .before .before .before .before)) (passed _ (table-good e2) (passed _ (has-shape e3)
     (e ∙ ap₂ (readAnswer (table c)) (n .numbered .ensures) (n .before .reading-of .ensures ∙ ap readingOf (e3 .before .before .guess .ensures)))))
 
 returns-4 : tie.Need-returns-4
