@@ -10,11 +10,11 @@ use lib.Signed.{ltZ}
 use Rattle.laws.proofs.Difference.{up, down, ltZ-true, ltZ-false}
 use Rattle.leap.specs.declared.Table.{Table}
 use Rattle.leap.proofs.Facts.{Accepted}
-use Rattle.leap.proofs.Moves.{Near, near, kept, small}
+use Rattle.leap.proofs.Moves.{Near, near, kept, at-first, small}
 use Rattle.stamp.specs.declared.Scale.{Scale}
 use Rattle.stamp.specs.declared.Scale.the-variants.{Utc, Tai, Tdt, Gps}
 use Rattle.stamp.specs.Labels.{Offsets, uniform, lastMinute}
-use Rattle.stamp.specs.Instants.{offsetsOf}
+use Rattle.stamp.specs.Instants.{offsetsOf, firstOffset}
 
 pub record Steps (o : Offsets) : Type 0 where
   pub by-one : (m : ℕ) → Near (o m) (o (m + 1))
@@ -30,6 +30,12 @@ steps t acc Utc =
 steps t acc Tai = steps-uniform
 steps t acc Tdt = steps-uniform
 steps t acc Gps = steps-uniform
+
+pub first-offset : (t : Table) → Accepted t → (s : Scale) → firstOffset s ≡ offsetsOf t s 23664
+first-offset t acc Utc = sym (at-first t acc ∙ acc .ten)
+first-offset t acc Tai = refl
+first-offset t acc Tdt = refl
+first-offset t acc Gps = refl
 
 module _ (x z : ℤ) (n : Near x z) where
   pub turn : up z + down x + 60 ≡ lastMinute x z + (up x + down z)

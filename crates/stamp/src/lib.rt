@@ -8,7 +8,7 @@ ghost use lib.Signed.{leZ, _≤ℤ_, _<ℤ_};
 ghost use Rattle.leap.specs.Leap.{tabled, accepted};
 ghost use Rattle.months.specs.Months.{daysBefore, monthLength};
 ghost use Rattle.stamp.specs.Labels.{lastMinute, monthOf, minuteIn, realYear, realMonth, dayIn, realClock, secondOf};
-ghost use Rattle.stamp.specs.Instants.{scaleOf, scaleNumber, fixed, offsetsOf, mostSecond, instantAt, countOf, fieldsAnswer, instantAnswer};
+ghost use Rattle.stamp.specs.Instants.{scaleOf, scaleNumber, fixed, offsetsOf, firstOffset, mostSecond, instantAt, countOf, fieldsAnswer, instantAnswer};
 ghost use Rattle.stamp.specs.Stamps.{dayBegins, begins, minuteOf, inDay, inMonth, since, labelAt, inRange, timeAnswer, stampAnswer};
 use answer::Refusal;
 use leap::Table;
@@ -120,6 +120,18 @@ impl Scale {
     {
         match self {
             Scale::Utc => leap::offset_at(count, months, offsets, m),
+            Scale::Tai => 0,
+            Scale::Tdt => 0,
+            Scale::Gps => 0,
+        }
+    }
+
+    // The offset in January 1972, the first month of every accepted table.
+    fn first_offset(self) -> i32
+        ensures { λ r. ⌜ r ≡ firstOffset self ⌝ }
+    {
+        match self {
+            Scale::Utc => 10,
             Scale::Tai => 0,
             Scale::Tdt => 0,
             Scale::Gps => 0,
@@ -386,9 +398,10 @@ fn in_range<'a>(
     offsets: &'a [i32; 64],
     instant: i64,
 ) -> bool
+    requires { ⌜ accepted (tabled count (now months) (now offsets)) ≡ true ⌝ }
     ensures { λ r. ⌜ r ≡ inRange (tabled count (now (months .entry)) (now (offsets .entry))) scale instant ⌝ }
 {
-    let a = scale.offset(count, months, offsets, 23664);
+    let a = scale.first_offset();
     let b = scale.offset(count, months, offsets, 119999);
     let first = scale.instant(Scale::FIRST, a, 0);
     let last = scale.instant(Scale::LAST, b, 999999);

@@ -40,7 +40,7 @@ count-told : (c : tie.After-count) → c .count .result ≡ countOf (c .before .
 count-told c = c .count .ensures ∙ ap (λ (x : ℤ). countOf x (fixed (c .before .before .before .args .scale))) (same (c .before .before .before))
 
 in-range-requires : tie.Need-in-range-requires
-in-range-requires c κs = search needs
+in-range-requires c κs = c .pre
 
 returns : tie.Need-returns
 returns c = refused _ _ (fails (told (c .before)) (c .if1 .taken))
