@@ -1,6 +1,6 @@
 -- `stamp::instant_in` meets its contract: the tests in their order, and past them the label's instant.
 -- Assumes nothing.
-use mathlib.Core.Path.{_≡_, ap, ap₂, _∙_}
+use mathlib.Core.Path.{_≡_, refl, ap, ap₂, _∙_}
 use mathlib.Core.Bool.{true}
 use Prim.Native.Nat.{ℕ}
 use native.Mathlib.Omega.{arith}
@@ -9,14 +9,14 @@ use mir.Syntax.{w64}
 use mir.Val.{toZ, ofZ}
 use mir.Facts.{toZ-ofZ}
 use Rattle.laws.proofs.Branches.{fails, holds}
-use Rattle.laws.proofs.Machine.{read1, read2}
+use Rattle.laws.proofs.Machine.{read1}
 use Rattle.answer.proofs.Orders.{refused, passed}
 use Rattle.calendar.specs.declared.Span.{Span}
 use Rattle.months.specs.Months.{monthLength}
 use Rattle.months.proofs.Laws.{days-most, length-most}
 use Rattle.leap.specs.Leap.{tabled}
 use Rattle.stamp.specs.declared.InstantAnswer.the-variants.{At}
-use Rattle.stamp.specs.Labels.{minuteIn, minuteLength, monthOf, realYear, realMonth, dayIn, realDay, realClock, secondOf}
+use Rattle.stamp.specs.Labels.{monthOf, realYear, realMonth, dayIn, realDay, realClock, secondOf}
 use Rattle.stamp.specs.Instants.{offsetsOf, mostSecond, fixed, instantAt}
 use Rattle.stamp.proofs.Facts.{year-to, month-to, day-to, clock-to, most-sixty, second-no, second-yes}
 use Rattle.stamp.proofs.instant_in.Statement.{statement}
@@ -44,13 +44,6 @@ clock-told c = c .real-clock .ensures ∙ ap (λ (k : ℕ). realClock k (c .befo
 
 clock-ok : (c : tie.Else4) → realClock (mostSecond (c .before .before .before .before .before .before .before .before .before .before .before .args .scale)) (c .before .before .before .before .before .before .before .before .before .before .before .args .r) ≡ true
 clock-ok c = holds (clock-told (c .before)) (c .if4 .left)
-
--- the seconds of the label's minute
-minute-told : (c : tie.After-minute-in) → c .minute-in .result ≡ minuteLength (offsetsOf (tabled (c .before .before .before .before .before .before .before .before .before .before .before .before .before .before .args .count) (c .before .before .before .before .before .before .before .before .before .before .before .before .before .before .args .months .now) (c .before .before .before .before .before .before .before .before .before .before .before .before .before .before .args .offsets .now)) (c .before .before .before .before .before .before .before .before .before .before .before .before .before .before .args .scale)) (c .before .before .before .before .before .before .before .before .before .before .before .before .before .before .args .r .label)
-minute-told c =
-    let l = c .before .before .before .before .before .before .before .before .before .before .before .before .before .before .args .r .label in
-    read2 (λ x y. minuteIn x y l) (sfits-of (c .before .before .offset .ok)) (sfits-of (c .before .offset2 .ok)) (c .minute-in .ensures)
-    ∙ ap₂ (λ x y. minuteIn x y l) (c .before .before .offset .ensures) (c .before .offset2 .ensures)
 
 real-year-requires : tie.Need-real-year-requires
 real-year-requires c κs = search needs
@@ -98,32 +91,26 @@ returns-4 c =
     let e = c .before .before .before in
     passed _ (year-ok (e .before .before .before .before .before)) (passed _ (month-ok (e .before .before .before)) (passed _ (day-ok e) (refused _ _ (fails (clock-told (c .before)) (c .if4 .taken)))))
 
-offset-requires : tie.Need-offset-requires
-offset-requires c κs = search needs
-
-add-offset : tie.Need-add-offset
-add-offset c =
-    let e = c .before .before .before .before in
+minute-length-requires : tie.Need-minute-length-requires
+minute-length-requires c κs =
+    let e = c .before .before .before in
     let y = year-to _ (year-ok (e .before .before .before .before .before)) in
     let m = month-to _ (month-ok (e .before .before .before)) in
-    omega arith
-
-offset-requires-2 : tie.Need-offset-requires-2
-offset-requires-2 c κs = search needs
-
-minute-in-requires : tie.Need-minute-in-requires
-minute-in-requires c κs = length-is (c .before .before .before .before .before .before .before)
+    (refl, (omega arith, length-is (e .before .before)))
 
 returns-5 : tie.Need-returns-5
 returns-5 c =
-    let e4 = c .before .before .before .before .before in
+    let e4 = c .before .before .before in
     let e3 = e4 .before .before .before in
     let a = e3 .before .before .before .before .before .before .before .before .args in
-    passed _ (year-ok (e3 .before .before .before .before .before)) (passed _ (month-ok (e3 .before .before .before)) (passed _ (day-ok e3) (passed _ (clock-ok e4) (refused _ _ (second-no (offsetsOf (tabled (a .count) (a .months .now) (a .offsets .now)) (a .scale)) (a .r .label) (minute-told (c .before .before)) (c .if5 .taken))))))
+    passed _ (year-ok (e3 .before .before .before .before .before)) (passed _ (month-ok (e3 .before .before .before)) (passed _ (day-ok e3) (passed _ (clock-ok e4) (refused _ _ (second-no (offsetsOf (tabled (a .count) (a .months .now) (a .offsets .now)) (a .scale)) (a .r .label) (c .before .before .minute-length .ensures) (c .if5 .taken))))))
+
+offset-requires : tie.Need-offset-requires
+offset-requires c κs = search needs
 
 second-of-requires : tie.Need-second-of-requires
 second-of-requires c κs =
-    let e4 = c .before .before .before .before .before in
+    let e4 = c .before .before .before .before in
     let e3 = e4 .before .before .before in
     let y = year-to _ (year-ok (e3 .before .before .before .before .before)) in
     let m = month-to _ (month-ok (e3 .before .before .before)) in
@@ -135,21 +122,21 @@ second-of-requires c κs =
 
 instant-requires : tie.Need-instant-requires
 instant-requires c κs =
-    let k = clock-to _ _ (clock-ok (c .before .before .before .before .before .before)) in
+    let k = clock-to _ _ (clock-ok (c .before .before .before .before .before)) in
     (c .second-of .ensures .1, k .micro-high)
 
 returns-6 : tie.Need-returns-6
 returns-6 c =
-    let e5 = c .before .before in
-    let e4 = e5 .before .before .before .before .before in
+    let e5 = c .before .before .before in
+    let e4 = e5 .before .before .before in
     let e3 = e4 .before .before .before in
     let a = e3 .before .before .before .before .before .before .before .before .args in
-    let here = e5 .before .before .before .before .offset in
+    let here = c .before .before .offset in
     let at : toZ w64 (ofZ w64 (c .instant .result)) ≡ instantAt (secondOf (a .r .label)) (offsetsOf (tabled (a .count) (a .months .now) (a .offsets .now)) (a .scale) (monthOf (a .r .label))) (a .r .micro) (fixed (a .scale)) =
     toZ-ofZ (sfits-of (c .instant .ok))
     ∙ read1 (λ o. instantAt (c .before .second-of .result) o (a .r .micro) (fixed (a .scale))) (sfits-of (here .ok)) (c .instant .ensures)
     ∙ ap₂ (λ s o. instantAt s o (a .r .micro) (fixed (a .scale))) (c .before .second-of .ensures .0) (here .ensures) in
-    passed _ (year-ok (e3 .before .before .before .before .before)) (passed _ (month-ok (e3 .before .before .before)) (passed _ (day-ok e3) (passed _ (clock-ok e4) (passed _ (second-yes (offsetsOf (tabled (a .count) (a .months .now) (a .offsets .now)) (a .scale)) (a .r .label) (minute-told (e5 .before .before)) (e5 .if5 .left)) (ap At at)))))
+    passed _ (year-ok (e3 .before .before .before .before .before)) (passed _ (month-ok (e3 .before .before .before)) (passed _ (day-ok e3) (passed _ (clock-ok e4) (passed _ (second-yes (offsetsOf (tabled (a .count) (a .months .now) (a .offsets .now)) (a .scale)) (a .r .label) (e5 .before .before .minute-length .ensures) (e5 .if5 .left)) (ap At at)))))
 
 pub instant-in-spec : {M : Type 1} → statement M
 instant-in-spec =
@@ -168,11 +155,9 @@ instant-in-spec =
     most-second-requires
     real-clock-requires
     returns-4
-    offset-requires
-    add-offset
-    offset-requires-2
-    minute-in-requires
+    minute-length-requires
     returns-5
+    offset-requires
     second-of-requires
     instant-requires
     returns-6)
