@@ -320,7 +320,27 @@ fn has_begun(day: u64, offset: i32, second: u64) -> bool
     d + o <= s
 }
 
-// The seconds since it began.
+// Month m has begun, whose first day is `day`. No offset is below -128 seconds: up to then the table is not asked.
+fn month_begun<'a>(
+    scale: Scale,
+    count: usize,
+    months: &'a [u32; 64],
+    offsets: &'a [i32; 64],
+    m: u32,
+    day: u64,
+    second: u64,
+) -> bool
+    requires { ⌜ accepted (tabled count (now months) (now offsets)) ≡ true ⌝ }
+    requires { ⌜ (day ≤ 5000000) × (second ≤ 500000000000) ⌝ }
+    ensures { λ r. ⌜ r ≡ leZ (dayBegins day (offsetsOf (tabled count (now (months .entry)) (now (offsets .entry))) scale m)) (pos second) ⌝ }
+{
+    if second + 128 < 86400 * day {
+        return false;
+    }
+    has_begun(day, scale.offset(count, months, offsets, m), second)
+}
+
+// The seconds since a day began.
 fn since_begun(day: u64, offset: i32, second: u64) -> u64
     requires { ⌜ (day ≤ 5000000) × (second ≤ 500000000000) ⌝ }
     requires { ⌜ dayBegins day offset ≤ℤ pos second ⌝ }
@@ -392,9 +412,10 @@ fn label_at<'a>(
     let span = calendar::month_of_day(((second - 128) / 86400) as u32);
     let m = span.number;
     let end = span.start + span.length as u64;
-    let next = scale.offset(count, months, offsets, m + 1);
-    if has_begun(end, next, second) {
-        return in_day(m + 1, 0, since_begun(end, next, second) as u32);
+    let next = m + 1;
+    if month_begun(scale, count, months, offsets, next, end, second) {
+        let there = scale.offset(count, months, offsets, next);
+        return in_day(next, 0, since_begun(end, there, second) as u32);
     }
     let here = scale.offset(count, months, offsets, m);
     in_month(m, span.length, since_begun(span.start, here, second) as u32)

@@ -6,10 +6,9 @@ use Prim.Native.Nat.{ℕ, _+_, _-_, _≤_, _<_}
 use native.Mathlib.Omega.{arith}
 use borrow.Author.Needs.{needs, sfits-of}
 use lib.IntN.{ℤ, pos}
-use lib.Signed.{leZ, _≤ℤ_, _<ℤ_, leZ-yes}
-use lib.Dec.{T}
+use lib.Signed.{leZ, _≤ℤ_, _<ℤ_}
 use mir.Syntax.{w32}
-use mir.Val.{SFits, toZ, ofZ}
+use mir.Val.{toZ, ofZ}
 use mir.Facts.{toZ-ofZ}
 use Rattle.calendar.specs.declared.Span.{Span}
 use Rattle.months.specs.Months.{daysBefore, monthLength}
@@ -21,7 +20,7 @@ use Rattle.stamp.specs.Instants.{offsetsOf}
 use Rattle.stamp.specs.Stamps.{dayBegins, begins, since, inDay, inMonth}
 use Rattle.stamp.proofs.Turn.{Steps, steps}
 use Rattle.stamp.proofs.Place.{guess, begun-from}
-use Rattle.stamp.proofs.Guess.{second-range, guess-most, next-rest, next-label, in-guess, guess-rest, guess-label}
+use Rattle.stamp.proofs.Guess.{second-range, guess-most, next-rest, next-label, in-next, in-guess, guess-rest, guess-label}
 use Rattle.stamp.proofs.label_at.Statement.{statement}
 use Rattle.stamp.proofs.label_at.Tie as tie
 
@@ -65,45 +64,40 @@ module _ (c : tie.After-month-of-day) where
   days-few : daysBefore (guess (s (c .before)) + 1) ≤ 4000000
   days-few = omega (arith, most (c .before), days-most (guess (s (c .before)) + 1))
 
--- the next month's begin
-module _ (c : tie.After-offset) where
-  next-fits : SFits w32 (c .offset .result)
-  next-fits = sfits-of (c .offset .ok)
+-- the next month has begun, or not
+abbrev month : tie.After-month-begun → tie.After-month-of-day
+month c = c .before .before .before
 
-  next-is : toZ w32 (ofZ w32 (c .offset .result)) ≡ o (c .before .before .before .before) (guess (s (c .before .before .before .before)) + 1)
-  next-is = toZ-ofZ next-fits ∙ c .offset .ensures ∙ ap (λ (k : ℕ). o (c .before .before .before .before) (k + 1)) (number-is (c .before .before .before))
+abbrev start : tie.After-month-begun → tie.Start
+start c = month c .before
 
-  -- of a function of the day and the offset
-  at-next : {A : Type 0} (f : ℕ → ℤ → A) → f (c .before .before .before .month-of-day .result .start + c .before .before .before .month-of-day .result .length) (toZ w32 (ofZ w32 (c .offset .result))) ≡ f (daysBefore (guess (s (c .before .before .before .before)) + 1)) (o (c .before .before .before .before) (guess (s (c .before .before .before .before)) + 1))
-  at-next f = ap₂ f (end-is (c .before .before .before)) next-is
-
-module _ (c : tie.After-offset2) where
-  here-fits : SFits w32 (c .offset2 .result)
-  here-fits = sfits-of (c .offset2 .ok)
-
-begun-told : (c : tie.After-has-begun) → c .has-begun .result ≡ leZ (begins (o (c .before .before .before .before .before)) (guess (s (c .before .before .before .before .before)) + 1)) (pos (s (c .before .before .before .before .before)))
+begun-told : (c : tie.After-month-begun) → c .month-begun .result ≡ leZ (begins (o (start c)) (guess (s (start c)) + 1)) (pos (s (start c)))
 begun-told c =
-    c .has-begun .ensures ∙ at-next (c .before) (λ d x. leZ (dayBegins d x) (pos (s (c .before .before .before .before .before))))
+    c .month-begun .ensures ∙ ap₂ (λ d k. leZ (dayBegins d (o (start c) (k + 1))) (pos (s (start c)))) (end-is (month c)) (number-is (month c))
 
-begun-yes : (c : tie.Then1) → leZ (begins (o (c .before .before .before .before .before .before)) (guess (s (c .before .before .before .before .before .before)) + 1)) (pos (s (c .before .before .before .before .before .before))) ≡ true
+begun-yes : (c : tie.Then1) → leZ (begins (o (start (c .before))) (guess (s (start (c .before))) + 1)) (pos (s (start (c .before)))) ≡ true
 begun-yes c = sym (begun-told (c .before)) ∙ c .if1 .taken
 
-begun-no : (c : tie.Else1) → leZ (begins (o (c .before .before .before .before .before .before)) (guess (s (c .before .before .before .before .before .before)) + 1)) (pos (s (c .before .before .before .before .before .before))) ≡ false
+begun-no : (c : tie.Else1) → leZ (begins (o (start (c .before))) (guess (s (start (c .before))) + 1)) (pos (s (start (c .before)))) ≡ false
 begun-no c = sym (begun-told (c .before)) ∙ c .if1 .left
 
--- the seconds since then
-rest-told : (c : tie.After-since-begun) → c .since-begun .result ≡ since (daysBefore (guess (s (c .before .before .before .before .before .before .before)) + 1)) (o (c .before .before .before .before .before .before .before) (guess (s (c .before .before .before .before .before .before .before)) + 1)) (s (c .before .before .before .before .before .before .before))
-rest-told c = c .since-begun .ensures ∙ at-next (c .before .before .before) (λ d x. since d x (s (c .before .before .before .before .before .before .before)))
+-- a function of the day and the offset with which a month begins: the next
+at-next : (c : tie.After-offset) {A : Type 0} (f : ℕ → ℤ → A) → let b = start (c .before .before) in f (month (c .before .before) .month-of-day .result .start + month (c .before .before) .month-of-day .result .length) (toZ w32 (ofZ w32 (c .offset .result))) ≡ f (daysBefore (guess (s b) + 1)) (o b (guess (s b) + 1))
+at-next c f =
+    let m = month (c .before .before) in
+    ap₂ f (end-is m) (toZ-ofZ (sfits-of (c .offset .ok)) ∙ c .offset .ensures ∙ ap (λ (k : ℕ). o (m .before) (k + 1)) (number-is m))
 
--- this month's begin
-here-is : (c : tie.After-offset2) → toZ w32 (ofZ w32 (c .offset2 .result)) ≡ o (c .before .before .before .before .before .before .before) (guess (s (c .before .before .before .before .before .before .before)))
-here-is c = toZ-ofZ (here-fits c) ∙ c .offset2 .ensures ∙ ap (o (c .before .before .before .before .before .before .before)) (number-is (c .before .before .before .before .before .before))
+rest-told : (c : tie.After-since-begun) → let b = start (c .before .before .before) in c .since-begun .result ≡ since (daysBefore (guess (s b) + 1)) (o b (guess (s b) + 1)) (s b)
+rest-told c = c .since-begun .ensures ∙ at-next (c .before) (λ d x. since d x (s (start (c .before .before .before))))
 
-at-here : (c : tie.After-offset2) {A : Type 0} (f : ℕ → ℤ → A) → f (c .before .before .before .before .before .before .month-of-day .result .start) (toZ w32 (ofZ w32 (c .offset2 .result))) ≡ f (daysBefore (guess (s (c .before .before .before .before .before .before .before)))) (o (c .before .before .before .before .before .before .before) (guess (s (c .before .before .before .before .before .before .before))))
-at-here c f = ap₂ f (start-is (c .before .before .before .before .before .before)) (here-is c)
+-- and this
+at-here : (c : tie.After-offset2) {A : Type 0} (f : ℕ → ℤ → A) → let b = start (c .before .before) in f (month (c .before .before) .month-of-day .result .start) (toZ w32 (ofZ w32 (c .offset2 .result))) ≡ f (daysBefore (guess (s b))) (o b (guess (s b)))
+at-here c f =
+    let m = month (c .before .before) in
+    ap₂ f (start-is m) (toZ-ofZ (sfits-of (c .offset2 .ok)) ∙ c .offset2 .ensures ∙ ap (o (m .before)) (number-is m))
 
-here-told : (c : tie.After-since-begun2) → c .since-begun2 .result ≡ since (daysBefore (guess (s (c .before .before .before .before .before .before .before .before)))) (o (c .before .before .before .before .before .before .before .before) (guess (s (c .before .before .before .before .before .before .before .before)))) (s (c .before .before .before .before .before .before .before .before))
-here-told c = c .since-begun2 .ensures ∙ at-here (c .before) (λ d x. since d x (s (c .before .before .before .before .before .before .before .before)))
+here-told : (c : tie.After-since-begun2) → let b = start (c .before .before .before) in c .since-begun2 .result ≡ since (daysBefore (guess (s b))) (o b (guess (s b))) (s b)
+here-told c = c .since-begun2 .ensures ∙ at-here (c .before) (λ d x. since d x (s (start (c .before .before .before))))
 
 sub-month-of-day : tie.Need-sub-month-of-day
 sub-month-of-day c = range c .0
@@ -120,61 +114,64 @@ cast-end c = search needs
 add-end : tie.Need-add-end
 add-end c = omega (arith, end-is (c .before .before), days-few (c .before .before))
 
-add-offset : tie.Need-add-offset
-add-offset c = omega (arith, number-is (c .before .before), most (c .before .before .before))
+add-next : tie.Need-add-next
+add-next c = omega (arith, number-is (c .before .before), most (c .before .before .before))
+
+month-begun-requires : tie.Need-month-begun-requires
+month-begun-requires c κs =
+    let m = c .before .before in
+    (m .before .pre .0, (omega (arith, end-is m, days-few m), omega (arith, range (m .before))))
 
 offset-requires : tie.Need-offset-requires
 offset-requires c κs = search needs
 
-has-begun-requires : tie.Need-has-begun-requires
-has-begun-requires c κs = (omega (arith, end-is (c .before .before .before), days-few (c .before .before .before)), omega (arith, range (c .before .before .before .before)))
-
-add-in-day : tie.Need-add-in-day
-add-in-day c = omega (arith, number-is (c .before .before .before .before .before), most (c .before .before .before .before .before .before))
-
 since-begun-requires : tie.Need-since-begun-requires
 since-begun-requires c κs =
-    ((omega (arith, end-is (c .before .before .before .before .before), days-few (c .before .before .before .before .before)), omega (arith, range (c .before .before .before .before .before .before))), leZ-yes (subst T (sym (sym (c .before .has-begun .ensures) ∙ c .if1 .taken)) tt))
+    let m = month (c .before .before) in
+    let b = m .before in
+    ((omega (arith, end-is m, days-few m), omega (arith, range b)), subst (λ (z : ℤ). z ≤ℤ pos (s b)) (sym (at-next c dayBegins)) (begun-from (o b) (guess (s b) + 1) (s b) (in-next (o b) (st b) (s b) (low b) (high b) (begun-yes (c .before)) .begun)))
 
 cast-in-day : tie.Need-cast-in-day
 cast-in-day c =
-    let b = c .before .before .before .before .before .before .before in
-    omega (arith, rest-told c, next-rest (o b) (st b) (s b) (low b) (high b) (begun-yes (c .before)))
+    let b = start (c .before .before .before) in
+    omega (arith, rest-told c, next-rest (o b) (st b) (s b) (low b) (high b) (begun-yes (c .before .before)))
 
 in-day-requires : tie.Need-in-day-requires
 in-day-requires c κs = search needs
 
 returns : tie.Need-returns
 returns c =
-    let b = c .before .before .before .before .before .before .before .before in
+    let m = month (c .before .before .before .before) in
+    let b = m .before in
     c .in-day .ensures
-    ∙ ap₂ (λ k r. inDay (k + 1) 0 r) (number-is (c .before .before .before .before .before .before .before)) (rest-told (c .before))
-    ∙ next-label (o b) (st b) (s b) (low b) (high b) (begun-yes (c .before .before))
+    ∙ ap₂ (λ k r. inDay (k + 1) 0 r) (number-is m) (rest-told (c .before))
+    ∙ next-label (o b) (st b) (s b) (low b) (high b) (begun-yes (c .before .before .before))
 
 offset-requires-2 : tie.Need-offset-requires-2
 offset-requires-2 c κs = search needs
 
 since-begun-requires-2 : tie.Need-since-begun-requires-2
 since-begun-requires-2 c κs =
-    let b = c .before .before .before .before .before .before .before in
-    let m = c .before .before .before .before .before .before in
+    let m = month (c .before .before) in
+    let b = m .before in
     ((omega (arith, start-is m, days-next (guess (s b)), days-few m), omega (arith, range b)), subst (λ (z : ℤ). z ≤ℤ pos (s b)) (sym (at-here c dayBegins)) (begun-from (o b) (guess (s b)) (s b) (in-guess (o b) (st b) (s b) (low b) (high b) (begun-no (c .before)) .begun)))
 
 cast-in-month : tie.Need-cast-in-month
 cast-in-month c =
-    let b = c .before .before .before .before .before .before .before .before in
+    let b = start (c .before .before .before) in
     omega (arith, here-told c, guess-rest (o b) (st b) (s b) (low b) (high b) (begun-no (c .before .before)))
 
 in-month-requires : tie.Need-in-month-requires
 in-month-requires c κs =
-    let m = c .before .before .before .before .before .before .before in
+    let m = month (c .before .before .before) in
     length-is m ∙ sym (ap monthLength (number-is m))
 
 returns-2 : tie.Need-returns-2
 returns-2 c =
-    let b = c .before .before .before .before .before .before .before .before .before in
+    let m = month (c .before .before .before .before) in
+    let b = m .before in
     c .in-month .ensures
-    ∙ ap₂ inMonth (number-is (c .before .before .before .before .before .before .before .before)) (here-told (c .before))
+    ∙ ap₂ inMonth (number-is m) (here-told (c .before))
     ∙ guess-label (o b) (st b) (s b) (low b) (high b) (begun-no (c .before .before .before))
 
 pub label-at-spec : {M : Type 1} → statement M
@@ -186,10 +183,9 @@ label-at-spec =
     month-of-day-requires
     cast-end
     add-end
-    add-offset
+    add-next
+    month-begun-requires
     offset-requires
-    has-begun-requires
-    add-in-day
     since-begun-requires
     cast-in-day
     in-day-requires
