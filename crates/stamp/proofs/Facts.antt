@@ -1,17 +1,19 @@
 -- What the tests of a reading say, as facts about numbers.
 -- Assumes nothing.
-use mathlib.Core.Path.{_≡_}
+use mathlib.Core.Path.{_≡_, refl, sym, ap, _∙_}
 use mathlib.Core.Bool.{true, false}
-use Prim.Native.Nat.{ℕ, _-_, _≤_, _<_}
+use Prim.Native.Nat.{ℕ, _+_, _-_, _≤_, _<_}
 use native.Mathlib.Omega.{arith}
-use borrow.Author.Tests.{leb-true, ltb-true, lt-ltb, le-ltb}
+use borrow.Author.Tests.{leb-true, ltb-true, lt-ltb, le-ltb, eq-eqb, ne-eqb}
+use lib.Dec.{eqb}
 use Rattle.months.specs.Months.{monthLength}
 use Rattle.laws.proofs.Cases.{and-l, and-r}
+use Rattle.laws.proofs.Branches.{and-no, and-rest, cond-yes, cond-rest}
 use Rattle.stamp.specs.declared.Scale.{Scale}
 use Rattle.stamp.specs.declared.Scale.the-variants.{Utc, Tai, Tdt, Gps}
 use Rattle.stamp.specs.declared.Label.{Label}
 use Rattle.stamp.specs.declared.Reading.{Reading}
-use Rattle.stamp.specs.Labels.{Offsets, monthOf, minuteLength, realYear, realMonth, realDay, realClock, hasSecond}
+use Rattle.stamp.specs.Labels.{Offsets, lastMinute, monthOf, minuteIn, minuteLength, realYear, realMonth, realDay, realClock, hasSecond}
 use Rattle.stamp.specs.Instants.{mostSecond}
 
 pub year-to : (l : Label) → realYear l ≡ true → (1972 ≤ l .year) × (l .year ≤ 9999)
@@ -45,6 +47,28 @@ most-sixty Utc = omega arith
 most-sixty Tai = omega arith
 most-sixty Tdt = omega arith
 most-sixty Gps = omega arith
+
+-- the code's tests for the last minute of month m, which has so many days
+module _ (o : Offsets) (l : Label) {m days : ℕ} (em : m ≡ monthOf l) (ed : days ≡ monthLength m) where
+  last-day : l .day ≡ days → eqb (l .day) (monthLength (monthOf l)) ≡ true
+  last-day d = eq-eqb _ _ (d ∙ ed ∙ ap monthLength em)
+
+  pub other-day : (l .day ≡ days → ⊥) → 60 ≡ minuteLength o l
+  unfolding minuteIn
+  other-day d = cond-rest _ (sym (and-no _ (ne-eqb _ _ (λ e. d (e ∙ sym (ed ∙ ap monthLength em)))))) refl
+
+  pub other-hour : l .day ≡ days → (l .hour ≡ 23 → ⊥) → 60 ≡ minuteLength o l
+  unfolding minuteIn
+  other-hour d h = cond-rest _ (sym (and-rest (last-day d) (and-no _ (ne-eqb _ _ h)))) refl
+
+  pub other-minute : l .day ≡ days → l .hour ≡ 23 → (l .minute ≡ 59 → ⊥) → 60 ≡ minuteLength o l
+  unfolding minuteIn
+  other-minute d h i = cond-rest _ (sym (and-rest (last-day d) (and-rest (eq-eqb _ _ h) (sym (ne-eqb _ _ i))))) refl
+
+  pub last-of-month : {n : ℕ} → l .day ≡ days → l .hour ≡ 23 → l .minute ≡ 59 → n ≡ lastMinute (o m) (o (m + 1)) → n ≡ minuteLength o l
+  unfolding minuteIn
+  last-of-month d h i e =
+      cond-yes _ (sym (and-rest (last-day d) (and-rest (eq-eqb _ _ h) (sym (eq-eqb _ _ i))))) (e ∙ ap (λ (k : ℕ). lastMinute (o k) (o (k + 1))) em)
 
 -- the code's test, `n` being the minute's length
 pub second-no : (o : Offsets) (l : Label) {n : ℕ} → n ≡ minuteLength o l → n ≤ l .second → hasSecond o l ≡ false

@@ -414,11 +414,11 @@ fn label_at<'a>(
     let end = span.start + span.length as u64;
     let next = m + 1;
     if month_begun(scale, count, months, offsets, next, end, second) {
-        let there = scale.offset(count, months, offsets, next);
-        return in_day(next, 0, since_begun(end, there, second) as u32);
+        let offset = scale.offset(count, months, offsets, next);
+        return in_day(next, 0, since_begun(end, offset, second) as u32);
     }
-    let here = scale.offset(count, months, offsets, m);
-    in_month(m, span.length, since_begun(span.start, here, second) as u32)
+    let offset = scale.offset(count, months, offsets, m);
+    in_month(m, span.length, since_begun(span.start, offset, second) as u32)
 }
 
 // The scale has a label for the instant.
