@@ -418,7 +418,11 @@ fn label_at<'a>(
         return in_day(next, 0, since_begun(end, offset, second) as u32);
     }
     let offset = scale.offset(count, months, offsets, m);
-    in_month(m, span.length, since_begun(span.start, offset, second) as u32)
+    in_month(
+        m,
+        span.length,
+        since_begun(span.start, offset, second) as u32,
+    )
 }
 
 // The scale has a label for the instant.
@@ -465,21 +469,27 @@ fn stamp_in<'a>(
     StampAnswer::Stamped(Stamp { scale, reading })
 }
 
-pub fn stamp_of(t: Table, instant: i64, scale: u32) -> StampAnswer
-    ensures { λ r. ⌜ r ≡ stampAnswer t instant scale ⌝ }
+// By lent arrays: a function that takes a table by value, and is not inlined, copies it.
+fn stamp_of_in<'a>(
+    count: usize,
+    months: &'a [u32; 64],
+    offsets: &'a [i32; 64],
+    instant: i64,
+    scale: u32,
+) -> StampAnswer
+    ensures { λ r. ⌜ r ≡ stampAnswer (tabled count (now (months .entry)) (now (offsets .entry))) instant scale ⌝ }
 {
     if 3 < scale {
         return StampAnswer::Refused(Refusal::Ask);
     }
-    if !leap::is_accepted_in(t.count, &t.months, &t.offsets) {
+    if !leap::is_accepted_in(count, months, offsets) {
         return StampAnswer::Refused(Refusal::Table);
     }
-    let count = t.count;
-    stamp_in(
-        Scale::numbered(scale),
-        count,
-        &t.months,
-        &t.offsets,
-        instant,
-    )
+    stamp_in(Scale::numbered(scale), count, months, offsets, instant)
+}
+
+pub fn stamp_of(t: Table, instant: i64, scale: u32) -> StampAnswer
+    ensures { λ r. ⌜ r ≡ stampAnswer t instant scale ⌝ }
+{
+    stamp_of_in(t.count, &t.months, &t.offsets, instant, scale)
 }
