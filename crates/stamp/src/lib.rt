@@ -469,8 +469,8 @@ fn stamp_in<'a>(
     StampAnswer::Stamped(Stamp { scale, reading })
 }
 
-// By lent arrays: a function that takes a table by value, and is not inlined, copies it.
-fn stamp_of_in<'a>(
+// For callers that lend the arrays: a table by value is copied.
+pub fn stamp_of_in<'a>(
     count: usize,
     months: &'a [u32; 64],
     offsets: &'a [i32; 64],

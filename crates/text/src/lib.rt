@@ -454,7 +454,7 @@ pub fn write_text(
     if 6 < digits {
         return Written::Refused(Refusal::Ask);
     }
-    match stamp::stamp_of(t, instant, scale) {
+    match stamp::stamp_of_in(t.count, &t.months, &t.offsets, instant, scale) {
         StampAnswer::Stamped(stamp) => write_fields(fields_of(picture, digits, stamp.reading), out),
         StampAnswer::Refused(why) => Written::Refused(why),
     }

@@ -24,8 +24,11 @@ picture-known c = le-leb _ _ (c .if1 .left)
 digits-known : (c : tie.Else2) → leb (c .before .before .before .args .digits) 6 ≡ true
 digits-known c = le-leb _ _ (c .if2 .left)
 
-stamped : (c : tie.After-stamp-of) → c .stamp-of .result ≡ stampAnswer (c .before .before .before .before .args .t) (c .before .before .before .before .args .instant) (c .before .before .before .before .args .scale)
-stamped c = let s = c .before .before .before .before in read1 (λ (x : ℤ). stampAnswer (s .args .t) x (s .args .scale)) (s .fits .instant) (c .stamp-of .ensures)
+abbrev start : tie.After-stamp-of-in → tie.Start
+start c = c .before .before .before .before .before .before .before
+
+stamped : (c : tie.After-stamp-of-in) → let a = start c .args in c .stamp-of-in .result ≡ stampAnswer (a .t1) (a .instant) (a .scale)
+stamped c = let s = start c in read1 (λ (x : ℤ). stampAnswer (s .args .t1) x (s .args .scale)) (s .fits .instant) (c .stamp-of-in .ensures)
 
 returns : tie.Need-returns
 returns c = let e = lt-leb _ _ (c .if1 .taken) in (rw e, rw e)
@@ -38,32 +41,32 @@ returns-2 c =
 fields-of-requires : tie.Need-fields-of-requires
 fields-of-requires c κs =
     let s = c .before .before .before in
-    let a = s .before .before .before .before .args in
-    stamp-plain (a .t) (a .scale) (a .instant) (sym (stamped s) ∙ c .before .stamp .given .1)
+    let a = start s .args in
+    stamp-plain (a .t1) (a .scale) (a .instant) (sym (stamped s) ∙ c .before .stamp .given .1)
 
 -- what the call answers and leaves, from the answer of `stamp`
-answers : {A : Type 0} (refuse : Refusal → A) (x : A) (c : tie.After-stamp-of) {v : StampAnswer} → c .stamp-of .result ≡ v
-    → let a = c .before .before .before .before .args in asWritten refuse x v ≡ refusing refuse (writeTests (a .t) (a .instant) (a .picture) (a .scale) (a .digits)) x
+answers : {A : Type 0} (refuse : Refusal → A) (x : A) (c : tie.After-stamp-of-in) {v : StampAnswer} → c .stamp-of-in .result ≡ v
+    → let a = start c .args in asWritten refuse x v ≡ refusing refuse (writeTests (a .t1) (a .instant) (a .picture) (a .scale) (a .digits)) x
 answers refuse x c e =
-    let a = c .before .before .before .before .args in
-    write-as refuse x (a .t) (a .instant) (a .picture) (a .scale) (a .digits) (picture-known (c .before .before)) (digits-known (c .before)) (sym e ∙ stamped c)
+    let a = start c .args in
+    write-as refuse x (a .t1) (a .instant) (a .picture) (a .scale) (a .digits) (picture-known (c .before .before .before .before .before)) (digits-known (c .before .before .before .before)) (sym e ∙ stamped c)
 
 returns-3 : tie.Need-returns-3
 returns-3 c =
     let w = c .before .before in
     let f = w .before .before in
     let s = f .before .before .before .before in
-    let a = s .before .before .before .before .args in
+    let a = start s .args in
     let e = f .before .before .stamp .given .1 in
-    let shown : pictureText (f .fields-of .result) ≡ textAt (a .t) (a .instant) (a .picture) (a .scale) (a .digits) =
-    ap pictureText (f .fields-of .ensures) ∙ ap (λ (z : Stamp). textOf (a .picture) (a .digits) (z .reading)) (sym (stamp-given (a .t) (a .scale) (a .instant) _ (sym (stamped s) ∙ e) .1 .1 .1)) in
+    let shown : pictureText (f .fields-of .result) ≡ textAt (a .t1) (a .instant) (a .picture) (a .scale) (a .digits) =
+    ap pictureText (f .fields-of .ensures) ∙ ap (λ (z : Stamp). textOf (a .picture) (a .digits) (z .reading)) (sym (stamp-given (a .t1) (a .scale) (a .instant) _ (sym (stamped s) ∙ e) .1 .1 .1)) in
     let r = rw shown at (w .write-fields .ensures) in
     (r .0 ∙ answers Refused _ s e, r .1 ∙ answers (λ why. a .out .now) _ s e)
 
 returns-4 : tie.Need-returns-4
 returns-4 c =
     let s = c .before .before .before in
-    let a = s .before .before .before .before .args in
+    let a = start s .args in
     (answers Refused _ s (c .before .why .given .1), answers (λ why. a .out .now) _ s (c .before .why .given .1))
 
 pub write-text-spec : {M : Type 1} → statement M
