@@ -1,11 +1,11 @@
 -- What the tests of a reading say, as facts about numbers.
 -- Assumes nothing.
-use mathlib.Core.Path.{_≡_, refl, sym, ap, _∙_}
+use mathlib.Core.Path.{_≡_, refl, sym, _∙_}
 use mathlib.Core.Bool.{true, false}
-use Prim.Native.Nat.{ℕ, _+_, _-_, _≤_, _<_}
+use Prim.Native.Nat.{ℕ, _-_, _≤_, _<_}
 use native.Mathlib.Omega.{arith}
 use borrow.Author.Tests.{leb-true, ltb-true, lt-ltb, le-ltb, eq-eqb, ne-eqb}
-use lib.Dec.{eqb}
+use lib.IntN.{ℤ}
 use Rattle.months.specs.Months.{monthLength}
 use Rattle.laws.proofs.Cases.{and-l, and-r}
 use Rattle.laws.proofs.Branches.{and-no, and-rest, cond-yes, cond-rest}
@@ -48,27 +48,23 @@ most-sixty Tai = omega arith
 most-sixty Tdt = omega arith
 most-sixty Gps = omega arith
 
--- the code's tests for the last minute of month m, which has so many days
-module _ (o : Offsets) (l : Label) {m days : ℕ} (em : m ≡ monthOf l) (ed : days ≡ monthLength m) where
-  last-day : l .day ≡ days → eqb (l .day) (monthLength (monthOf l)) ≡ true
-  last-day d = eq-eqb _ _ (d ∙ ed ∙ ap monthLength em)
-
-  pub other-day : (l .day ≡ days → ⊥) → 60 ≡ minuteLength o l
+-- the code's tests for the last minute of a month, which has so many days
+module _ (l : Label) {days : ℕ} (ed : days ≡ monthLength (monthOf l)) (here next : ℤ) where
+  pub other-day : (l .day ≡ days → ⊥) → 60 ≡ minuteIn here next l
   unfolding minuteIn
-  other-day d = cond-rest _ (sym (and-no _ (ne-eqb _ _ (λ e. d (e ∙ sym (ed ∙ ap monthLength em)))))) refl
+  other-day d = cond-rest _ (sym (and-no _ (ne-eqb _ _ (λ e. d (e ∙ sym ed))))) refl
 
-  pub other-hour : l .day ≡ days → (l .hour ≡ 23 → ⊥) → 60 ≡ minuteLength o l
+  pub other-hour : l .day ≡ days → (l .hour ≡ 23 → ⊥) → 60 ≡ minuteIn here next l
   unfolding minuteIn
-  other-hour d h = cond-rest _ (sym (and-rest (last-day d) (and-no _ (ne-eqb _ _ h)))) refl
+  other-hour d h = cond-rest _ (sym (and-rest (eq-eqb _ _ (d ∙ ed)) (and-no _ (ne-eqb _ _ h)))) refl
 
-  pub other-minute : l .day ≡ days → l .hour ≡ 23 → (l .minute ≡ 59 → ⊥) → 60 ≡ minuteLength o l
+  pub other-minute : l .day ≡ days → l .hour ≡ 23 → (l .minute ≡ 59 → ⊥) → 60 ≡ minuteIn here next l
   unfolding minuteIn
-  other-minute d h i = cond-rest _ (sym (and-rest (last-day d) (and-rest (eq-eqb _ _ h) (sym (ne-eqb _ _ i))))) refl
+  other-minute d h i = cond-rest _ (sym (and-rest (eq-eqb _ _ (d ∙ ed)) (and-rest (eq-eqb _ _ h) (sym (ne-eqb _ _ i))))) refl
 
-  pub last-of-month : {n : ℕ} → l .day ≡ days → l .hour ≡ 23 → l .minute ≡ 59 → n ≡ lastMinute (o m) (o (m + 1)) → n ≡ minuteLength o l
+  pub last-of-month : {n : ℕ} → l .day ≡ days → l .hour ≡ 23 → l .minute ≡ 59 → n ≡ lastMinute here next → n ≡ minuteIn here next l
   unfolding minuteIn
-  last-of-month d h i e =
-      cond-yes _ (sym (and-rest (last-day d) (and-rest (eq-eqb _ _ h) (sym (eq-eqb _ _ i))))) (e ∙ ap (λ (k : ℕ). lastMinute (o k) (o (k + 1))) em)
+  last-of-month d h i e = cond-yes _ (sym (and-rest (eq-eqb _ _ (d ∙ ed)) (and-rest (eq-eqb _ _ h) (sym (eq-eqb _ _ i))))) e
 
 -- the code's test, `n` being the minute's length
 pub second-no : (o : Offsets) (l : Label) {n : ℕ} → n ≡ minuteLength o l → n ≤ l .second → hasSecond o l ≡ false

@@ -7,7 +7,7 @@ ghost use lib.IntN.{ℤ, pos, negsuc};
 ghost use lib.Signed.{leZ, _≤ℤ_, _<ℤ_};
 ghost use Rattle.leap.specs.Leap.{tabled, accepted};
 ghost use Rattle.months.specs.Months.{daysBefore, monthLength};
-ghost use Rattle.stamp.specs.Labels.{lastMinute, monthOf, minuteLength, realYear, realMonth, dayIn, realClock, secondOf};
+ghost use Rattle.stamp.specs.Labels.{lastMinute, monthOf, minuteIn, realYear, realMonth, dayIn, realClock, secondOf};
 ghost use Rattle.stamp.specs.Instants.{scaleOf, scaleNumber, fixed, offsetsOf, firstOffset, mostSecond, instantAt, countOf, fieldsAnswer, instantAnswer};
 ghost use Rattle.stamp.specs.Stamps.{dayBegins, begins, minuteOf, inDay, inMonth, since, labelAt, inRange, timeAnswer, stampAnswer};
 use answer::Refusal;
@@ -218,20 +218,21 @@ pub fn last_minute(here: i32, next: i32) -> u32
     60
 }
 
-// The seconds of the label's minute; only the last minute of a month looks at the table.
-fn minute_length<'a>(
+// The seconds of the label's minute; only the last minute of month m asks for its offset and the next month's.
+fn minute_in<'a>(
     scale: Scale,
     count: usize,
     months: &'a [u32; 64],
     offsets: &'a [i32; 64],
-    l: Label,
     m: u32,
-    days: u32,
+    next: u32,
+    l: Label,
+    length: u32,
 ) -> u32
-    requires { ⌜ (m ≡ monthOf l) × ((m < 120000) × (days ≡ monthLength m)) ⌝ }
-    ensures { λ r. ⌜ r ≡ minuteLength (offsetsOf (tabled count (now (months .entry)) (now (offsets .entry))) scale) l ⌝ }
+    requires { ⌜ length ≡ monthLength (monthOf l) ⌝ }
+    ensures { λ r. ⌜ r ≡ minuteIn (offsetsOf (tabled count (now (months .entry)) (now (offsets .entry))) scale m) (offsetsOf (tabled count (now (months .entry)) (now (offsets .entry))) scale next) l ⌝ }
 {
-    if l.day != days {
+    if l.day != length {
         return 60;
     }
     if l.hour != 23 {
@@ -240,9 +241,10 @@ fn minute_length<'a>(
     if l.minute != 59 {
         return 60;
     }
-    let here = scale.offset(count, months, offsets, m);
-    let next = scale.offset(count, months, offsets, m + 1);
-    last_minute(here, next)
+    last_minute(
+        scale.offset(count, months, offsets, m),
+        scale.offset(count, months, offsets, next),
+    )
 }
 
 fn second_of(l: Label, start: u64) -> u64
@@ -287,7 +289,8 @@ pub fn instant_in<'a>(
     if !real_clock(scale.most_second(), r) {
         return InstantAnswer::Refused(Refusal::Clock);
     }
-    if minute_length(scale, count, months, offsets, l, m, span.length) <= l.second {
+    let next = m + 1;
+    if minute_in(scale, count, months, offsets, m, next, l, span.length) <= l.second {
         return InstantAnswer::Refused(Refusal::NoSecond);
     }
     let here = scale.offset(count, months, offsets, m);

@@ -1,29 +1,31 @@
 -- `clock::minute_length` meets its contract: a minute has 60 seconds, but for the last of a month.
 -- Assumes nothing.
-use mathlib.Core.Path.{ap₂, _∙_}
+use mathlib.Core.Path.{_≡_, ap, ap₂, _∙_}
+use Prim.Native.Nat.{ℕ, _+_}
 use borrow.Author.Needs.{needs, sfits-of}
 use Rattle.laws.proofs.Machine.{read2}
+use Rattle.calendar.specs.Calendar.{monthLength}
 use Rattle.leap.specs.Leap.{tabled, offsetAt}
-use Rattle.stamp.specs.Labels.{Offsets, lastMinute}
+use Rattle.stamp.specs.Labels.{lastMinute, monthOf}
 use Rattle.stamp.proofs.Facts.{other-day, other-hour, other-minute, last-of-month}
 use Rattle.clock.proofs.minute_length.Statement.{statement}
 use Rattle.clock.proofs.minute_length.Tie as tie
 
-abbrev o : tie.Start → Offsets
-o c = offsetAt (tabled (c .args .count) (c .args .months .now) (c .args .offsets .now))
+days-are : (c : tie.Start) → c .args .days ≡ monthLength (monthOf (c .args .l))
+days-are c = c .pre .1 .1 ∙ ap monthLength (c .pre .0)
 
 pub minute-length-spec : {M : Type 1} → statement M
 minute-length-spec =
     tie.close
     (tie.spec
-    (λ c. let a = c .before .before in other-day (o a) (a .args .l) (a .pre .0) (a .pre .1 .1) (c .if1 .taken))
+    (λ c. let a = c .before .before in other-day (a .args .l) (days-are a) _ _ (c .if1 .taken))
     (λ c. let e1 = c .before .before in
     let a = e1 .before .before in
-    other-hour (o a) (a .args .l) (a .pre .0) (a .pre .1 .1) (e1 .if1 .left) (c .if2 .taken))
+    other-hour (a .args .l) (days-are a) _ _ (e1 .if1 .left) (c .if2 .taken))
     (λ c. let e2 = c .before .before in
     let e1 = e2 .before .before in
     let a = e1 .before .before in
-    other-minute (o a) (a .args .l) (a .pre .0) (a .pre .1 .1) (e1 .if1 .left) (e2 .if2 .left) (c .if3 .taken))
+    other-minute (a .args .l) (days-are a) _ _ (e1 .if1 .left) (e2 .if2 .left) (c .if3 .taken))
     (λ c κs. search needs)
     (λ c. search needs)
     (λ c κs. search needs)
@@ -34,5 +36,8 @@ minute-length-spec =
     let e2 = e3 .before .before in
     let e1 = e2 .before .before in
     let a = e1 .before .before in
-    last-of-month (o a) (a .args .l) (a .pre .0) (a .pre .1 .1) (e1 .if1 .left) (e2 .if2 .left) (e3 .if3 .left)
-    (read2 lastMinute (sfits-of (here .ok)) (sfits-of (next .ok)) (c .last-minute .ensures) ∙ ap₂ lastMinute (here .ensures) (next .ensures))))
+    let o = offsetAt (tabled (a .args .count) (a .args .months .now) (a .args .offsets .now)) in
+    last-of-month (a .args .l) (days-are a) _ _ (e1 .if1 .left) (e2 .if2 .left) (e3 .if3 .left)
+    (read2 lastMinute (sfits-of (here .ok)) (sfits-of (next .ok)) (c .last-minute .ensures)
+    ∙ ap₂ lastMinute (here .ensures) (next .ensures)
+    ∙ ap (λ (k : ℕ). lastMinute (o k) (o (k + 1))) (a .pre .0))))

@@ -1,6 +1,6 @@
 -- `stamp::instant_in` meets its contract: the tests in their order, and past them the label's instant.
 -- Assumes nothing.
-use mathlib.Core.Path.{_≡_, refl, ap, ap₂, _∙_}
+use mathlib.Core.Path.{_≡_, ap, ap₂, _∙_}
 use mathlib.Core.Bool.{true}
 use Prim.Native.Nat.{ℕ}
 use native.Mathlib.Omega.{arith}
@@ -91,19 +91,22 @@ returns-4 c =
     let e = c .before .before .before in
     passed _ (year-ok (e .before .before .before .before .before)) (passed _ (month-ok (e .before .before .before)) (passed _ (day-ok e) (refused _ _ (fails (clock-told (c .before)) (c .if4 .taken)))))
 
-minute-length-requires : tie.Need-minute-length-requires
-minute-length-requires c κs =
+add-next : tie.Need-add-next
+add-next c =
     let e = c .before .before .before in
     let y = year-to _ (year-ok (e .before .before .before .before .before)) in
     let m = month-to _ (month-ok (e .before .before .before)) in
-    (refl, (omega arith, length-is (e .before .before)))
+    omega arith
+
+minute-in-requires : tie.Need-minute-in-requires
+minute-in-requires c κs = length-is (c .before .before .before .before .before)
 
 returns-5 : tie.Need-returns-5
 returns-5 c =
     let e4 = c .before .before .before in
     let e3 = e4 .before .before .before in
     let a = e3 .before .before .before .before .before .before .before .before .args in
-    passed _ (year-ok (e3 .before .before .before .before .before)) (passed _ (month-ok (e3 .before .before .before)) (passed _ (day-ok e3) (passed _ (clock-ok e4) (refused _ _ (second-no (offsetsOf (tabled (a .count) (a .months .now) (a .offsets .now)) (a .scale)) (a .r .label) (c .before .before .minute-length .ensures) (c .if5 .taken))))))
+    passed _ (year-ok (e3 .before .before .before .before .before)) (passed _ (month-ok (e3 .before .before .before)) (passed _ (day-ok e3) (passed _ (clock-ok e4) (refused _ _ (second-no (offsetsOf (tabled (a .count) (a .months .now) (a .offsets .now)) (a .scale)) (a .r .label) (c .before .before .minute-in .ensures) (c .if5 .taken))))))
 
 offset-requires : tie.Need-offset-requires
 offset-requires c κs = search needs
@@ -136,7 +139,7 @@ returns-6 c =
     toZ-ofZ (sfits-of (c .instant .ok))
     ∙ read1 (λ o. instantAt (c .before .second-of .result) o (a .r .micro) (fixed (a .scale))) (sfits-of (here .ok)) (c .instant .ensures)
     ∙ ap₂ (λ s o. instantAt s o (a .r .micro) (fixed (a .scale))) (c .before .second-of .ensures .0) (here .ensures) in
-    passed _ (year-ok (e3 .before .before .before .before .before)) (passed _ (month-ok (e3 .before .before .before)) (passed _ (day-ok e3) (passed _ (clock-ok e4) (passed _ (second-yes (offsetsOf (tabled (a .count) (a .months .now) (a .offsets .now)) (a .scale)) (a .r .label) (e5 .before .before .minute-length .ensures) (e5 .if5 .left)) (ap At at)))))
+    passed _ (year-ok (e3 .before .before .before .before .before)) (passed _ (month-ok (e3 .before .before .before)) (passed _ (day-ok e3) (passed _ (clock-ok e4) (passed _ (second-yes (offsetsOf (tabled (a .count) (a .months .now) (a .offsets .now)) (a .scale)) (a .r .label) (e5 .before .before .minute-in .ensures) (e5 .if5 .left)) (ap At at)))))
 
 pub instant-in-spec : {M : Type 1} → statement M
 instant-in-spec =
@@ -155,7 +158,8 @@ instant-in-spec =
     most-second-requires
     real-clock-requires
     returns-4
-    minute-length-requires
+    add-next
+    minute-in-requires
     returns-5
     offset-requires
     second-of-requires
