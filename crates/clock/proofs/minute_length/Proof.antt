@@ -4,7 +4,7 @@ use mathlib.Core.Path.{_≡_, ap, ap₂, _∙_}
 use Prim.Native.Nat.{ℕ, _+_}
 use borrow.Author.Needs.{needs, sfits-of}
 use Rattle.laws.proofs.Machine.{read2}
-use Rattle.calendar.specs.Calendar.{monthLength}
+use Rattle.months.specs.Months.{monthLength}
 use Rattle.leap.specs.Leap.{tabled, offsetAt}
 use Rattle.stamp.specs.Labels.{lastMinute, monthOf}
 use Rattle.stamp.proofs.Facts.{other-day, other-hour, other-minute, last-of-month}
