@@ -54,7 +54,7 @@ fn date_of(u: u64) -> JulianDate
 pub fn write_julian(t: Table, instant: i64, scale: u32) -> JulianAnswer
     ensures { λ a. ⌜ a ≡ julianAnswer t instant scale ⌝ }
 {
-    let answer = stamp::stamp_of(t, instant, scale);
+    let answer = stamp::stamp_of_in(t.count, &t.months, &t.offsets, instant, scale);
     match answer {
         StampAnswer::Stamped(z) => JulianAnswer::Dated(date_of(micro_of(z.reading))),
         StampAnswer::Refused(why) => JulianAnswer::Refused(why),

@@ -13,17 +13,20 @@ use Rattle.julian.proofs.Written.{dated, written, stamp-bounds}
 use Rattle.julian.proofs.write_julian.Statement.{statement}
 use Rattle.julian.proofs.write_julian.Tie as tie
 
+abbrev start : tie.After-stamp-of-in → tie.Start
+start c = c .before .before .before .before
+
 -- what the callee found
-found : (c : tie.After-stamp-of) → c .stamp-of .result ≡ stampAnswer (c .before .args .t) (c .before .args .instant) (c .before .args .scale)
-found c = c .stamp-of .ensures ∙ ap (λ (x : ℤ). stampAnswer (c .before .args .t) x (c .before .args .scale)) (toZ-ofZ (c .before .fits .instant))
+found : (c : tie.After-stamp-of-in) → c .stamp-of-in .result ≡ stampAnswer (start c .args .t1) (start c .args .instant) (start c .args .scale)
+found c = c .stamp-of-in .ensures ∙ ap (λ (x : ℤ). stampAnswer (start c .args .t1) x (start c .args .scale)) (toZ-ofZ (start c .fits .instant))
 
 -- in the arm of a stamp
-stamped : (c : tie.After-known-told) → stampAnswer (c .before .before .before .before .args .t) (c .before .before .before .before .args .instant) (c .before .before .before .before .args .scale) ≡ Stamped (c .before .answer .given .0 .0)
+stamped : (c : tie.After-known-told) → let a = start (c .before .before .before) .args in stampAnswer (a .t1) (a .instant) (a .scale) ≡ Stamped (c .before .answer .given .0 .0)
 stamped c = sym (found (c .before .before .before)) ∙ c .before .answer .given .1
 
 -- what is answered where the callee found a
-answered : (c : tie.After-stamp-of) {a : StampAnswer} → c .stamp-of .result ≡ a → dated a ≡ julianAnswer (c .before .args .t) (c .before .args .instant) (c .before .args .scale)
-answered c e = ap dated (sym e ∙ found c) ∙ written (c .before .args .t) (c .before .args .instant) (c .before .args .scale)
+answered : (c : tie.After-stamp-of-in) {a : StampAnswer} → c .stamp-of-in .result ≡ a → dated a ≡ julianAnswer (start c .args .t1) (start c .args .instant) (start c .args .scale)
+answered c e = ap dated (sym e ∙ found c) ∙ written (start c .args .t1) (start c .args .instant) (start c .args .scale)
 
 pub write-julian-spec : {M : Type 1} → statement M
 write-julian-spec =
