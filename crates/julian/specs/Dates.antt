@@ -2,21 +2,20 @@
 -- counted from year 0 on days of 86,400 seconds, on UTC too.
 -- Assumes nothing.
 use mathlib.Core.Bool.{Bool, false}
-use mathlib.Core.List.{List, [], _∷_}
+use mathlib.Core.List.{List, [], _∷_, _++_}
 use Prim.Native.Nat.{ℕ, _+_, _*_, _/_, _%_}
 use lib.Dec.{leb}
 use lib.IntN.{ℤ, pos}
 use lib.Ieee.{fin}
 use Rattle.answer.specs.declared.Refusal.{Refusal}
-use Rattle.answer.specs.declared.Refusal.the-variants.{Ask as ASK, Table as TABLE, Number as NUMBER, Range as RANGE, NoSecond as NOSECOND}
+use Rattle.answer.specs.declared.Refusal.the-variants.{Number as NUMBER, Range as RANGE, NoSecond as NOSECOND}
 use Rattle.answer.specs.Refusals.{number, refusing}
 use Rattle.leap.specs.declared.Table.{Table}
-use Rattle.leap.specs.Leap.{accepted}
 use Rattle.stamp.specs.declared.Reading.{Reading}
 use Rattle.stamp.specs.declared.InstantAnswer.{InstantAnswer}
 use Rattle.stamp.specs.declared.InstantAnswer.the-variants.{At, Refused as NoInstant}
 use Rattle.stamp.specs.Labels.{uniform, secondOf, hasSecond}
-use Rattle.stamp.specs.Instants.{scaleOf, offsetsOf, instantOf}
+use Rattle.stamp.specs.Instants.{scaleOf, called, offsetsOf, instantOf}
 use Rattle.stamp.specs.Stamps.{readingAt, stampAt, last, inRange}
 use Rattle.julian.specs.declared.JulianDate.{JulianDate}
 use Rattle.julian.specs.declared.JulianAnswer.{JulianAnswer}
@@ -37,7 +36,7 @@ dateOf u = record { midnight = midnightOf (u / day); fraction = fractionOf (u % 
 unfoldable pub julianAnswer : Table → ℤ → ℕ → JulianAnswer
 julianAnswer t x k =
     refusing Refused
-    ((leb k 3, ASK) ∷ (accepted t, TABLE) ∷ (inRange t (scaleOf k) x, RANGE) ∷ [])
+    (called t k ++ (inRange t (scaleOf k) x, RANGE) ∷ [])
     (Dated (dateOf (microOf (stampAt t (scaleOf k) x .reading))))
 
 -- an answer in the scope's numbers: that of the refusal, 0 on success, and the pair, both zero on a refusal
@@ -58,7 +57,7 @@ readingOf p = readingAt uniform (microRead p)
 -- what is asked of them, in this order: RANGE for the midnight alone, and again after rounding
 abbrev pub asked : Table → ℕ → JulianDate → List (Bool × Refusal)
 asked t k p =
-    (leb k 3, ASK) ∷ (accepted t, TABLE) ∷ (isMidnight (p .midnight), NUMBER) ∷ (isFraction (p .fraction), NUMBER) ∷ (inYears (p .midnight), RANGE) ∷ (leb (microRead p) (microOf last), RANGE) ∷ (hasSecond (offsetsOf t (scaleOf k)) (readingOf p .label), NOSECOND) ∷ []
+    called t k ++ (isMidnight (p .midnight), NUMBER) ∷ (isFraction (p .fraction), NUMBER) ∷ (inYears (p .midnight), RANGE) ∷ (leb (microRead p) (microOf last), RANGE) ∷ (hasSecond (offsetsOf t (scaleOf k)) (readingOf p .label), NOSECOND) ∷ []
 
 -- `read_julian`
 unfoldable pub dateAnswer : Table → ℕ → JulianDate → InstantAnswer

@@ -172,7 +172,7 @@ fn reading_at(u: u64) -> Reading
 pub fn read_julian(t: Table, scale: u32, date: JulianDate) -> InstantAnswer
     ensures { λ a. ⌜ a ≡ dateAnswer t scale date ⌝ }
 {
-    if 3 < scale {
+    if Scale::MOST < scale {
         return InstantAnswer::Refused(Refusal::Ask);
     }
     let count = t.count;

@@ -1,10 +1,11 @@
 -- The instant of a stamp, and the call that answers it.
 -- Assumes nothing.
-use mathlib.Core.Bool.{cond}
-use mathlib.Core.List.{[], _∷_}
+use mathlib.Core.Bool.{Bool, cond}
+use mathlib.Core.List.{List, [], _∷_}
 use Prim.Native.Nat.{ℕ, _+_, _*_, _-_}
 use lib.Dec.{eqb, leb}
 use lib.IntN.{ℤ, pos, negsuc, natAbs, _+ℤ_, _-ℤ_, _*ℤ_}
+use Rattle.answer.specs.declared.Refusal.{Refusal}
 use Rattle.answer.specs.declared.Refusal.the-variants.{Ask as ASK, Table as TABLE}
 use Rattle.answer.specs.Refusals.{number, refusing}
 use Rattle.leap.specs.declared.Table.{Table}
@@ -20,6 +21,10 @@ use Rattle.stamp.specs.Labels.{Offsets, uniform, monthOf, asked, secondO
 
 abbrev pub scaleOf : ℕ → Scale
 scaleOf k = cond (eqb k 0) Utc (cond (eqb k 1) Tai (cond (eqb k 2) Tdt Gps))
+
+-- it is the number of a scale
+abbrev pub knownScale : ℕ → Bool
+knownScale k = leb k 3
 
 -- 0 UTC, 1 TAI, 2 TDT, 3 GPS
 abbrev pub scaleNumber : Scale → ℕ
@@ -70,9 +75,13 @@ instantOf t s r = instantAt (secondOf (r .label)) (offsetsOf t s (monthOf (r .la
 abbrev pub fieldsAnswer : Table → Scale → Reading → InstantAnswer
 fieldsAnswer t s r = refusing Refused (asked (offsetsOf t s) (mostSecond s) r) (At (instantOf t s r))
 
+-- what a call with a table and a scale asks first
+abbrev pub called : Table → ℕ → List (Bool × Refusal)
+called t k = (knownScale k, ASK) ∷ (accepted t, TABLE) ∷ []
+
 -- `instant_of`
 unfoldable pub instantAnswer : Table → ℕ → Reading → InstantAnswer
-instantAnswer t k r = refusing Refused ((leb k 3, ASK) ∷ (accepted t, TABLE) ∷ []) (fieldsAnswer t (scaleOf k) r)
+instantAnswer t k r = refusing Refused (called t k) (fieldsAnswer t (scaleOf k) r)
 
 -- an answer in the scope's numbers: that of the refusal, 0 on success, and the instant, zero on a refusal
 abbrev pub instantResults : InstantAnswer → ℕ × ℤ

@@ -3,14 +3,12 @@
 use mathlib.Core.Bool.{Bool, cond, _&&_}
 use mathlib.Core.List.{[], _∷_}
 use Prim.Native.Nat.{ℕ, zero, suc, _+_, _*_, _-_, _/_, _%_, min}
-use lib.Dec.{leb}
 use lib.IntN.{ℤ, pos, natAbs, _+ℤ_, _-ℤ_}
 use lib.Signed.{leZ}
-use Rattle.answer.specs.declared.Refusal.the-variants.{Ask as ASK, Table as TABLE, Range as RANGE}
+use Rattle.answer.specs.declared.Refusal.the-variants.{Range as RANGE}
 use Rattle.answer.specs.Refusals.{number, refusing}
 use Rattle.months.specs.Months.{daysBefore, monthLength}
 use Rattle.leap.specs.declared.Table.{Table}
-use Rattle.leap.specs.Leap.{accepted}
 use Rattle.stamp.specs.declared.Scale.{Scale}
 use Rattle.stamp.specs.declared.Scale.the-variants.{Utc}
 use Rattle.stamp.specs.declared.Label.{Label}
@@ -19,7 +17,7 @@ use Rattle.stamp.specs.declared.Stamp.{Stamp}
 use Rattle.stamp.specs.declared.StampAnswer.{StampAnswer}
 use Rattle.stamp.specs.declared.StampAnswer.the-variants.{Stamped, Refused}
 use Rattle.stamp.specs.Labels.{Offsets, label, noLabel}
-use Rattle.stamp.specs.Instants.{scaleOf, fixed, offsetsOf, countOf, instantOf}
+use Rattle.stamp.specs.Instants.{scaleOf, fixed, offsetsOf, countOf, instantOf, called}
 
 -- ---- the label of a second
 
@@ -84,7 +82,7 @@ timeAnswer t s x = refusing Refused ((inRange t s x, RANGE) ∷ []) (Stamped (st
 
 -- `stamp_of`
 unfoldable pub stampAnswer : Table → ℤ → ℕ → StampAnswer
-stampAnswer t x k = refusing Refused ((leb k 3, ASK) ∷ (accepted t, TABLE) ∷ []) (timeAnswer t (scaleOf k) x)
+stampAnswer t x k = refusing Refused (called t k) (timeAnswer t (scaleOf k) x)
 
 -- every number of it zero
 abbrev pub noStamp : Stamp

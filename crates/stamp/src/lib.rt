@@ -59,6 +59,9 @@ impl Scale {
 
     pub const GPS: i64 = -19000000;
 
+    // The largest number that a scale has.
+    pub const MOST: u32 = 3;
+
     // The first and the last second that every scale labels, counted from year 0 on days of 86,400 seconds.
     pub const FIRST: u64 = 62230291200;
 
@@ -300,7 +303,7 @@ pub fn instant_in<'a>(
 pub fn instant_of(t: Table, scale: u32, r: Reading) -> InstantAnswer
     ensures { λ a. ⌜ a ≡ instantAnswer t scale r ⌝ }
 {
-    if 3 < scale {
+    if Scale::MOST < scale {
         return InstantAnswer::Refused(Refusal::Ask);
     }
     if !leap::is_accepted_in(t.count, &t.months, &t.offsets) {
@@ -482,7 +485,7 @@ pub fn stamp_of_in<'a>(
 ) -> StampAnswer
     ensures { λ r. ⌜ r ≡ stampAnswer (tabled count (now (months .entry)) (now (offsets .entry))) instant scale ⌝ }
 {
-    if 3 < scale {
+    if Scale::MOST < scale {
         return StampAnswer::Refused(Refusal::Ask);
     }
     if !leap::is_accepted_in(count, months, offsets) {

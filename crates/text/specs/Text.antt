@@ -1,7 +1,7 @@
 -- The calls: what a text is read as, and what is written for an instant.
 -- Assumes nothing.
 use mathlib.Core.Bool.{Bool, cond, _&&_}
-use mathlib.Core.List.{List, [], _∷_}
+use mathlib.Core.List.{List, [], _∷_, _++_}
 use Prim.Native.Nat.{ℕ}
 use lib.Dec.{eqb, leb}
 use lib.IntN.{ℤ, pos}
@@ -22,7 +22,7 @@ use Rattle.stamp.specs.declared.Label.{Label}
 use Rattle.stamp.specs.declared.Reading.{Reading}
 use Rattle.stamp.specs.declared.Stamp.{Stamp}
 use Rattle.stamp.specs.Labels.{label, monthOf, asked}
-use Rattle.stamp.specs.Instants.{scaleOf, offsetsOf, mostSecond, instantOf}
+use Rattle.stamp.specs.Instants.{scaleOf, knownScale, called, offsetsOf, mostSecond, instantOf}
 use Rattle.stamp.specs.Stamps.{inRange, stampAt, noStamp}
 use Rattle.stamp.specs.Promise.{stamp}
 use Rattle.text.specs.declared.Date.{Date}
@@ -62,7 +62,7 @@ readAnswer t s r = refusing Refused (asked (offsetsOf t s) (mostSecond s) r) (Re
 
 -- `read_text`: what is asked before that, in this order, and the answer
 abbrev pub readTests : Table → ℕ → List ℕ → List (Bool × Refusal)
-readTests t k text = (leb k 3, ASK) ∷ (accepted t, TABLE) ∷ (hasPicture text, SHAPE) ∷ []
+readTests t k text = called t k ++ (hasPicture text, SHAPE) ∷ []
 
 unfoldable pub textAnswer : Table → ℕ → List ℕ → TextAnswer
 textAnswer t k text = refusing Refused (readTests t k text) (readAnswer t (scaleOf k) (readingOf (guessed text)))
@@ -90,7 +90,7 @@ textOf p digits r = pictureText (fieldsOf p digits r)
 
 -- `write_text`: what is asked, in this order, and the text
 abbrev pub writeTests : Table → ℤ → ℕ → ℕ → ℕ → List (Bool × Refusal)
-writeTests t x p k digits = (leb p 2 && (leb digits 6 && leb k 3), ASK) ∷ (accepted t, TABLE) ∷ (inRange t (scaleOf k) x, RANGE) ∷ []
+writeTests t x p k digits = (leb p 2 && (leb digits 6 && knownScale k), ASK) ∷ (accepted t, TABLE) ∷ (inRange t (scaleOf k) x, RANGE) ∷ []
 
 abbrev pub textAt : Table → ℤ → ℕ → ℕ → ℕ → List ℕ
 textAt t x p k digits = textOf p digits (stampAt t (scaleOf k) x .reading)

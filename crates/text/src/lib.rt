@@ -416,7 +416,7 @@ fn fields_of(picture: u32, digits: u32, r: Reading) -> Fields
 pub fn read_text(t: Table, scale: u32, text: &[u8]) -> TextAnswer
     ensures { λ r. ⌜ r ≡ textAnswer t scale (now (text .entry)) ⌝ }
 {
-    if 3 < scale {
+    if Scale::MOST < scale {
         return TextAnswer::Refused(Refusal::Ask);
     }
     if !leap::is_accepted_in(t.count, &t.months, &t.offsets) {
