@@ -5,7 +5,7 @@ use mathlib.Core.List.{List, []}
 use Prim.Native.Nat.{ℕ}
 use native.Mathlib.Omega.{arith}
 use borrow.Author.Needs.{needs}
-use lib.ListN.{length, take}
+use lib.ListN.{length, take, length-replicate}
 use lib.Seq.{length-take-le}
 use Rattle.laws.proofs.Placed.{place-zero, over-front}
 use Rattle.answer.specs.Buffers.{written, bufferAfter}
@@ -39,10 +39,10 @@ pub list-spec : {M : Type 1} → statement M
 list-spec =
     tie.close
     (tie.spec
-    (λ c. search needs)
-    (λ c κs. search needs)
+    (λ c. sym (length-replicate {A = ℕ} 151208 0))
+    (λ c κs. length-replicate {A = ℕ} 151208 0)
     array-share-prefix-text
     slice-aggregate-write
-    (λ c κs. search needs)
+    (λ c κs. tt)
     (λ c. search needs)
     returns)
