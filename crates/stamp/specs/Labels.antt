@@ -18,6 +18,10 @@ use Rattle.stamp.specs.declared.Reading.{Reading}
 abbrev pub label : ℕ → ℕ → ℕ → ℕ → ℕ → ℕ → Label
 label y mo d h mi s = record { year = y; month = mo; day = d; hour = h; minute = mi; second = s }
 
+-- a label with its microsecond
+abbrev pub at : ℕ → ℕ → ℕ → ℕ → ℕ → ℕ → ℕ → Reading
+at y mo d h mi s u = record { label = label y mo d h mi s; micro = u }
+
 -- what stands for a label where there is none
 abbrev pub noLabel : Label
 noLabel = label 0 0 0 0 0 0

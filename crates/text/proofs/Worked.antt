@@ -14,12 +14,11 @@ use Rattle.leap.specs.declared.Table.{Table}
 use Rattle.leap.specs.Leap.{bulletinC, oneApart, placeRight, accepted, lastBegun, offsetAt}
 use Rattle.leap.proofs.BulletinC.{bulletin-accepted}
 use Rattle.stamp.specs.declared.Stamp.{Stamp}
-use Rattle.stamp.specs.Labels.{asked, lastMinute, minuteIn, realYear, realMonth, realDay, realClock, hasSecond}
+use Rattle.stamp.specs.Labels.{at, asked, lastMinute, minuteIn, realYear, realMonth, realDay, realClock, hasSecond}
 use Rattle.stamp.specs.Instants.{scaleOf, offsetsOf, mostSecond, instantAt}
 use Rattle.stamp.specs.Stamps.{first, inRange, stampAt}
 use Rattle.stamp.specs.Promise.{stamp}
-use Rattle.stamp.specs.Desk.{at}
-use Rattle.stamp.proofs.Worked.{quickInstant, quick-instant}
+use Rattle.stamp.proofs.Cycles.{quickInstant, quick-instant}
 use Rattle.text.specs.declared.TextAnswer.the-variants.{Read, Refused}
 use Rattle.text.specs.Pictures.{ascii, pictureText}
 use Rattle.text.specs.Guess.{spelled, guessed, isTextOf}

@@ -15,7 +15,7 @@ use Rattle.leap.specs.Desk.{T, N}
 use Rattle.stamp.specs.declared.Reading.{Reading}
 use Rattle.stamp.specs.Instants.{scaleOf}
 use Rattle.stamp.specs.Promise.{stamp}
-use Rattle.stamp.specs.Desk.{at}
+use Rattle.stamp.specs.Labels.{at}
 use Rattle.text.specs.declared.TextAnswer.{TextAnswer}
 use Rattle.text.specs.declared.TextAnswer.the-variants.{Read, Refused}
 use Rattle.text.specs.Pictures.{ascii}
