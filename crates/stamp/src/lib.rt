@@ -95,7 +95,7 @@ impl Scale {
         }
     }
 
-    pub fn fixed(self) -> i64
+    fn fixed(self) -> i64
         ensures { λ r. ⌜ r ≡ fixed self ⌝ }
     {
         match self {
@@ -106,7 +106,7 @@ impl Scale {
         }
     }
 
-    pub fn most_second(self) -> u32
+    fn most_second(self) -> u32
         ensures { λ r. ⌜ r ≡ mostSecond self ⌝ }
     {
         match self {
