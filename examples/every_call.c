@@ -1,4 +1,4 @@
-/* Each call of the header, once with an answer and once refused. It says where an answer is another than the header's, and ends with status 1. */
+/* Each call of the header, once with an answer and once refused (mundreff_bulletin_c is never refused). It says where an answer is another than the header's, and ends with status 1. */
 #include <inttypes.h>
 #include <stdio.h>
 #include <string.h>

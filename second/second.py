@@ -4,7 +4,8 @@
 It is written from the text of the scope ("What to build and its rules") and
 not from the Rattle code or its proofs, so that an error has to be made twice
 to pass unseen.  Python 3, standard library only.  Each section below is a
-section of the scope; the last two are the programs.
+section of the scope; after them come the programs, and the comparison of
+Bulletin C with the machine's own lists.
 
     second.py              answers the lines of the program `calls` (stdin to stdout)
     second.py ticks        prints the listing of the program `ticks`

@@ -1,5 +1,5 @@
 // The Gregorian calendar in months and days, both counted from January of year 0.
-// Dates become days and days become dates; each way asks `months` once, and so reads its table once.
+// Dates become days and days become dates; each way asks `months` once, for the days before one month.
 ghost use mathlib.Core.Path.{_≡_};
 ghost use Rattle.months.specs.Months.{leapYear, monthLength};
 ghost use Rattle.calendar.specs.Days.{dayOfYear};

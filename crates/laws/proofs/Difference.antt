@@ -7,7 +7,7 @@ use Prim.Native.Nat.{ℕ, zero, suc, _+_, _-_, _≤_, _<_}
 use native.Mathlib.Omega.{arith}
 use borrow.Author.Tests.{ltb-true, ltb-false, leb-false, le-leb}
 use lib.Dec.{T, ltb, leb, ltb→lt, lt→ltb, leb→le, le→leb}
-use lib.IntN.{ℤ, pos, negsuc, subℕ, _+ℤ_, _-ℤ_, negℤ, sucℤ, predℤ}
+use lib.IntN.{ℤ, pos, negsuc, subℕ, _+ℤ_, _-ℤ_, negℤ, sucℤ}
 use lib.Signed.{ltZ, leZ, _<ℤ_, _≤ℤ_, ltZ-no}
 
 abbrev pub up : ℤ → ℕ
@@ -45,11 +45,6 @@ pub suc-is : (x : ℤ) → up (sucℤ x) + down x ≡ suc (up x + down (sucℤ x
 suc-is (pos n) = omega arith
 suc-is (negsuc zero) = refl
 suc-is (negsuc (suc n)) = omega arith
-
-pub pred-is : (x : ℤ) → suc (up (predℤ x) + down x) ≡ up x + down (predℤ x)
-pred-is (pos zero) = refl
-pred-is (pos (suc n)) = omega arith
-pred-is (negsuc n) = omega arith
 
 -- ---- the statements, from integers to naturals and back
 

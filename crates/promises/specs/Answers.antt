@@ -1,6 +1,7 @@
 -- Answers in the scope's numbers: that of the refusal, 0 on success, the place of a refused block, and the values, zero in the rest on a refusal.
 -- Each crate has them for its answer type, case by case (`writtenResults`, `instantResults`, `stampResults`, `tickResults`, `textResults`, `julianResults`,
--- `blockResults`), and the promises speak of answers by these alone. Here is what holds of them; stamps, labels and pairs are shown in C's form.
+-- `blockResults`), and the promises speak of answers by these alone, but for `Settled`, which
+-- repeats the contracts. Here is what holds of them; stamps, labels and pairs are shown in C's form.
 -- Assumes nothing.
 use mathlib.Core.Path.{_≡_}
 use mathlib.Core.Bool.{false}

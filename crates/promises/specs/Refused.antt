@@ -20,4 +20,4 @@ pub record Refuses : Type 0 where
   pub writes-nothing : (tests : List (Bool × Refusal)) (bytes buffer : List ℕ) → (writtenResults (written tests bytes buffer) .0 ≡ 0 → ⊥) → bufferAfter tests bytes buffer ≡ buffer
   pub writes-no-more : (tests : List (Bool × Refusal)) (bytes buffer : List ℕ) (n : ℕ) → writtenResults (written tests bytes buffer) ≡ (0, n) → Kept bytes buffer (bufferAfter tests bytes buffer) n
   -- a block that is refused gives the all-zero table
-  pub gives-no-table : (block : List ℕ) → (blockResults (readBlock block) .0 ≡ 0 → ⊥) → readBlock block .table ≡ zeroTable
+  pub gives-no-table : (block : List ℕ) → (blockResults (readBlock block) .0 ≡ 0 → ⊥) → blockResults (readBlock block) .2 ≡ zeroTable

@@ -1,5 +1,5 @@
--- Stamps and instants: the stamp of an instant undoes the instant of a stamp. So the way back, which text, clock and Julian dates build on, is fixed
--- by the way there, and need not be believed. `Reads t s r x`: the scale s has the reading r under table t, and its instant is x.
+-- Stamps and instants: the stamp of an instant undoes the instant of a stamp. So the way back, which text and Julian dates build on and which the
+-- clock is held against, is fixed by the way there, and need not be believed. `Reads t s r x`: the scale s has the reading r under table t, and its instant is x.
 -- Assumes nothing.
 use mathlib.Core.Path.{_≡_}
 use Prim.Native.Nat.{ℕ}

@@ -23,14 +23,14 @@ pub record Reading-and-writing (t : Table) (k : ℕ) : Type 0 where
   -- accepted exactly when it names a moment, and then as that moment
   pub accepted-names-a-moment : (text : List ℕ) (x : ℤ) (z : Stamp) → Gives t k text x z → (z .scale ≡ scaleOf k) × Names t k text x (z .reading)
   pub a-moment-is-accepted : (text : List ℕ) (x : ℤ) (r : Reading) → Names t k text x r → Gives t k text x (stamp (scaleOf k) r)
-  -- in any picture, from any buffer: six digits read back as the instant with its stamp, fewer as the last such moment not after it
+  -- in any picture, from any buffer: six digits read back as the instant with its stamp, any number as the last moment not after it that they can show
   pub six-digits-read-back : (x : ℤ) (p : ℕ) (buffer : List ℕ) (n : ℕ) → writtenResults (writeAnswer t x p k 6 buffer) ≡ (0, n)
       → (z : Stamp) × GivesStamp t k x z × Gives t k (take n (bufferThen t x p k 6 buffer)) x z
   pub fewer-cut-to-the-past : (x : ℤ) (p digits : ℕ) (buffer : List ℕ) (n : ℕ) → writtenResults (writeAnswer t x p k digits buffer) ≡ (0, n)
       → (y : ℤ) × (z : Stamp) × Gives t k (take n (bufferThen t x p k digits buffer)) y z × Latest t (scaleOf k) digits x y
 
 pub record Demand2Text : Type 0 where
-  -- SHAPE is given exactly to a text that is the picture of no fields
+  -- the reader's test for SHAPE (`hasPicture`) fails exactly on a text that is the picture of no fields
   pub shape-is-no-picture : (text : List ℕ) → Pictured text
   pub picture-fixes-its-fields : Determined
   pub picture-fixes-its-length : Sized
