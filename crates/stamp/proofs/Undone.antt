@@ -6,8 +6,7 @@ use mathlib.Core.List.{[], _∷_}
 use Prim.Native.Nat.{ℕ, _+_, _-_, _*_, _/_, _%_, _≤_}
 use native.Mathlib.Omega.{arith}
 use lib.Dec.{leb}
-use lib.IntN.{ℤ, pos, negsuc}
-use lib.Signed.{_≤ℤ_}
+use lib.IntN.{ℤ}
 use Rattle.laws.proofs.Cases.{and-l, and-r, join, by-order}
 use Rattle.laws.proofs.Difference.{up, down, eq-from, le-leZ}
 use Rattle.months.specs.Months.{daysBefore}
@@ -34,7 +33,7 @@ use Rattle.stamp.proofs.Turn.{Steps, steps}
 use Rattle.stamp.proofs.Place.{In, Begun, Before, before-later, month-at}
 use Rattle.stamp.proofs.Exists.{Exists, label-exists, label-second, label-month, second-falls, label-back, second-few, second-uniform}
 use Rattle.stamp.proofs.Guess.{falls, label-is, not-past, not-early}
-use Rattle.stamp.proofs.Ends.{instant-is, count-is, first-second, last-second, days-end, range-count, range-begins, range-ends, range-low, range-high}
+use Rattle.stamp.proofs.Ends.{instant-is, count-is, first-second, last-second, days-end, range-count, range-begins, range-ends}
 
 -- the highest second of a scale
 most-of : (t : Table) → Accepted t → (sc : Scale) (l : Label) → Exists (offsetsOf t sc) l → l .second ≤ mostSecond sc
@@ -258,14 +257,6 @@ module _ (t : Table) (k : ℕ) where
             ∙ none-refused InstantRefused (asked (offsetsOf t (scaleOf k)) (mostSecond (scaleOf k)) (z .reading)) _ (b .is-admitted)
             ∙ ap At (b .instant-is),
       )
-
-  -- an instant that is answered lies between the scale's ends
-  pub instant-small : (r : Reading) (x : ℤ) → instantAnswer t k r ≡ At x → (negsuc 62999999999999999 ≤ℤ x) × (x ≤ℤ pos 300000000000000000)
-  instant-small r x e =
-      let g = instant-given r x e in
-      let acc = accepted-to t (g .1 .0) in
-      let i = reads-in-range t acc (scaleOf k) r x (g .1 .1) in
-      (range-low t acc (scaleOf k) x i, range-high t acc (scaleOf k) x i)
 
   none : (x : ℤ) → stampAnswer t x k ≡ StampRefused RANGE → (r : Reading) → instantAnswer t k r ≡ At x → ⊥
   none x e r q = no-stamp (stamp (scaleOf k) r) RANGE (sym e ∙ stamp-back r x q)
