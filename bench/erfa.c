@@ -4,8 +4,6 @@
 #include <math.h>
 
 static double utc1[INPUTS], utc2[INPUTS];
-static int64_t found[INPUTS];
-static char written[INPUTS][32];
 
 static int64_t joined(double day, double part) { return (int64_t)llround(((day - 2451545.0) + part) * 86400e6); }
 
@@ -84,20 +82,6 @@ static void pair_to_instant(void)
         eraUtctai(midnights[i], fractions[i], &t1, &t2);
         found[i] = joined(t1, t2);
     }
-}
-
-static int wrong_instants(void)
-{
-    int wrong = 0;
-    EACH wrong += found[i] != instants[i];
-    return wrong;
-}
-
-static int wrong_texts(void)
-{
-    int wrong = 0;
-    EACH wrong += memcmp(written[i], texts[i], 26) != 0;
-    return wrong;
 }
 
 int main(void)

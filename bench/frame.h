@@ -27,6 +27,9 @@ static char texts[INPUTS][28];
 /* what they should give: TAI microseconds from 2000-01-01 12:00:00, and the Julian pair */
 static int64_t instants[INPUTS];
 static double midnights[INPUTS], fractions[INPUTS];
+/* what a peer gave */
+static int64_t found[INPUTS];
+static char written[INPUTS][32];
 /* keeps the compiler from leaving work out */
 static volatile int64_t sink;
 
@@ -165,6 +168,22 @@ static inline void measure(const char *peer, const char *call, void (*work)(void
         printf("\t%.2f", ((double)(c.n[k] - b.n[k]) - (double)(b.n[k] - a.n[k])) / INPUTS);
     printf("\t%.2f\n", plugin ? 0.0 : median_ns(work));
     fflush(stdout);
+}
+
+/* ---- answers that are not those expected */
+
+static inline int wrong_instants(void)
+{
+    int wrong = 0;
+    EACH wrong += found[i] != instants[i];
+    return wrong;
+}
+
+static inline int wrong_texts(void)
+{
+    int wrong = 0;
+    EACH wrong += memcmp(written[i], texts[i], 26) != 0;
+    return wrong;
 }
 
 /* says how many of the inputs a peer answers otherwise than expected */

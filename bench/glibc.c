@@ -1,9 +1,6 @@
 /* The C library with a zone of the family right/, whose counts have leap seconds: whole seconds only, so microseconds go beside them. */
 #include "frame.h"
 
-static int64_t found[INPUTS];
-static char written[INPUTS][32];
-
 /* a count of right/UTC is TAI from 1970-01-01 00:00:10 */
 static int64_t instant_of(struct tm *label, int micro)
 {
@@ -57,20 +54,6 @@ static void instant_to_fields(void)
         struct tm label = label_of(instants[i], &micro);
         sink = label.tm_year + label.tm_sec + micro;
     }
-}
-
-static int wrong_instants(void)
-{
-    int wrong = 0;
-    EACH wrong += found[i] != instants[i];
-    return wrong;
-}
-
-static int wrong_texts(void)
-{
-    int wrong = 0;
-    EACH wrong += memcmp(written[i], texts[i], 26) != 0;
-    return wrong;
 }
 
 int main(void)
