@@ -4,3 +4,4 @@ pub mod Difference
 pub mod Machine
 pub mod Tables
 pub mod Placed
+pub mod Offsets

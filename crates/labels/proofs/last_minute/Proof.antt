@@ -1,9 +1,9 @@
 use mathlib.Core.Path.{refl}
 use Rattle.laws.proofs.Branches.{cond-yes, cond-rest}
 use Rattle.laws.proofs.Machine.{less-is}
-use Rattle.stamp.specs.Labels.{lastMinute}
-use Rattle.stamp.proofs.last_minute.Statement.{statement}
-use Rattle.stamp.proofs.last_minute.Tie as tie
+use Rattle.labels.specs.Labels.{lastMinute}
+use Rattle.labels.proofs.last_minute.Statement.{statement}
+use Rattle.labels.proofs.last_minute.Tie as tie
 
 returns : tie.Need-returns
 unfolding lastMinute

@@ -15,9 +15,9 @@ use Rattle.months.specs.Months.{daysBefore}
 use Rattle.calendar.specs.Days.{monthOfDay}
 use Rattle.months.proofs.Laws.{days-next, length-least}
 use Rattle.calendar.proofs.Days.{in-month}
-use Rattle.stamp.specs.Labels.{Offsets}
-use Rattle.stamp.specs.Stamps.{begins, monthAt, since}
-use Rattle.stamp.proofs.Turn.{Steps}
+use Rattle.labels.specs.Labels.{Offsets}
+use Rattle.labels.specs.Seconds.{begins, monthAt, since}
+use Rattle.laws.proofs.Offsets.{Steps}
 
 -- second s is not before month m, or before it
 abbrev pub Begun : Offsets → ℕ → ℕ → Type 0
@@ -30,6 +30,11 @@ Before o m s = s + down (o m) < 86400 * daysBefore m + up (o m)
 pub record In (o : Offsets) (m s : ℕ) : Type 0 where
   pub begun : Begun o m s
   pub ends : Before o (m + 1) s
+
+-- second s is in the years that have labels, from month 23,664 to month 119,999
+pub record Covered (o : Offsets) (s : ℕ) : Type 0 where
+  pub begun : Begun o 23664 s
+  pub ends : Before o 120000 s
 
 -- the code's guess: the month of the day 128 seconds before
 abbrev pub guess : ℕ → ℕ

@@ -12,11 +12,12 @@ use Rattle.laws.proofs.Cases.{by-order}
 use Rattle.laws.proofs.Difference.{up, down}
 use Rattle.months.specs.Months.{daysBefore, monthLength}
 use Rattle.months.proofs.Laws.{days-next, length-least}
-use Rattle.stamp.specs.declared.Label.{Label}
-use Rattle.stamp.specs.Labels.{Offsets, uniform, label, lastMinute, monthOf, minuteIn, minuteLength, secondOf}
-use Rattle.stamp.specs.Stamps.{minuteOf, dayOf, inDay, inMonth, since}
-use Rattle.stamp.proofs.Turn.{Steps, turn, minute-range}
-use Rattle.stamp.proofs.Place.{In, since-is}
+use Rattle.labels.specs.declared.Label.{Label}
+use Rattle.labels.specs.Labels.{Offsets, uniform, label, lastMinute, monthOf, minuteIn, minuteLength}
+use Rattle.labels.specs.Seconds.{minuteOf, dayOf, inDay, since, placeIn, labelOf, secondOf}
+use Rattle.laws.proofs.Offsets.{Steps}
+use Rattle.labels.proofs.Turn.{turn, minute-range}
+use Rattle.labels.proofs.Falls.{In, since-is}
 
 -- a label whose fields are in their ranges, and whose second its minute has
 pub record Exists (o : Offsets) (l : Label) : Type 0 where
@@ -29,7 +30,7 @@ pub record Exists (o : Offsets) (l : Label) : Type 0 where
   pub second-high : l .second < minuteLength o l
 
 -- a minute has 60 seconds, but for the last of a month
-minute-is : (x z : ℤ) (l : Label) → l .day ≤ monthLength (monthOf l) → l .hour ≤ 23 → l .minute ≤ 59 → ((1440 * l .day + (60 * l .hour + l .minute) < 1440 * monthLength (monthOf l) + 1439) × (minuteIn x z l ≡ 60)) ⊎ ((1440 * l .day + (60 * l .hour + l .minute) ≡ 1440 * monthLength (monthOf l) + 1439) × (minuteIn x z l ≡ lastMinute x z))
+minute-is : (x z : ℤ) (l : Label) → l .day ≤ monthLength (monthOf l) → l .hour ≤ 23 → l .minute ≤ 59 → ((1440 * l .day + (60 * l .hour + l .minute) < 1440 * monthLength (monthOf l) + 1439) × (minuteIn (monthLength (monthOf l)) x z l ≡ 60)) ⊎ ((1440 * l .day + (60 * l .hour + l .minute) ≡ 1440 * monthLength (monthOf l) + 1439) × (minuteIn (monthLength (monthOf l)) x z l ≡ lastMinute x z))
 unfolding minuteIn
 minute-is x z l hd hh hm = go (eqb (l .day) (monthLength (monthOf l))) (eqb (l .hour) 23) (eqb (l .minute) 59) refl refl refl
   where
@@ -49,7 +50,7 @@ record Split (length r last day minute second : ℕ) : Type 0 where
   over : 60 ≤ second → (day + 1 ≡ length) × (minute ≡ 1439)
   last-high : day + 1 ≡ length → minute ≡ 1439 → second < last
 
-split : (m r last : ℕ) → r + 60 < 86400 * monthLength m + last → last ≤ 61 → Split (monthLength m) r last (dayOf m r) (minuteOf (r - 86400 * dayOf m r)) (r - 86400 * dayOf m r - 60 * minuteOf (r - 86400 * dayOf m r))
+split : (m r last : ℕ) → r + 60 < 86400 * monthLength m + last → last ≤ 61 → Split (monthLength m) r last (dayOf (monthLength m) r) (minuteOf (r - 86400 * dayOf (monthLength m) r)) (r - 86400 * dayOf (monthLength m) r - 60 * minuteOf (r - 86400 * dayOf (monthLength m) r))
 split m r last h few =
     let n = length-least m in
     record { sum = omega arith; day-high = omega arith; minute-high = omega arith; over = λ h. omega arith; last-high = λ p q. omega arith }
@@ -59,12 +60,12 @@ module _ (o : Offsets) (st : Steps o) (m s : ℕ) (i : In o m s) where
   rest = since (daysBefore m) (o m) s
 
   shown : Label
-  shown = inMonth m rest
+  shown = labelOf (placeIn o s m)
 
   last : ℕ
   last = lastMinute (o m) (o (m + 1))
 
-  parts : Split (monthLength m) rest last (dayOf m rest) (minuteOf (rest - 86400 * dayOf m rest)) (rest - 86400 * dayOf m rest - 60 * minuteOf (rest - 86400 * dayOf m rest))
+  parts : Split (monthLength m) rest last (dayOf (monthLength m) rest) (minuteOf (rest - 86400 * dayOf (monthLength m) rest)) (rest - 86400 * dayOf (monthLength m) rest - 60 * minuteOf (rest - 86400 * dayOf (monthLength m) rest))
   unfolding rest last
   parts =
       split m rest last
@@ -72,11 +73,11 @@ module _ (o : Offsets) (st : Steps o) (m s : ℕ) (i : In o m s) where
       (minute-range (o m) (o (m + 1)) (st .by-one m) .1)
 
   month-is : monthOf shown ≡ m
-  unfolding shown inMonth inDay
+  unfolding shown labelOf inDay
   month-is = omega arith
 
-  second-in : (x z : ℤ) → lastMinute x z ≡ last → shown .second < minuteIn x z shown
-  unfolding shown inMonth inDay
+  second-in : (x z : ℤ) → lastMinute x z ≡ last → shown .second < minuteIn (monthLength (monthOf shown)) x z shown
+  unfolding shown labelOf inDay rest
   second-in x z e =
       let p = parts in
       let n = ap monthLength month-is in
@@ -85,8 +86,8 @@ module _ (o : Offsets) (st : Steps o) (m s : ℕ) (i : In o m s) where
       (λ w. omega (arith, p .last-high (omega arith) (omega arith)))
       (minute-is x z shown (omega arith) (omega arith) (omega arith))
 
-  pub label-exists : Exists o (inMonth m (since (daysBefore m) (o m) s))
-  unfolding shown inMonth inDay rest last
+  pub label-exists : Exists o (labelOf (placeIn o s m))
+  unfolding shown labelOf inDay rest last
   label-exists =
       let p = parts in
       let n = ap monthLength month-is in
@@ -100,14 +101,14 @@ module _ (o : Offsets) (st : Steps o) (m s : ℕ) (i : In o m s) where
         second-high = second-in (o (monthOf shown)) (o (monthOf shown + 1)) (ap (λ (k : ℕ). lastMinute (o k) (o (k + 1))) month-is);
       }
 
-  pub label-second : secondOf (inMonth m (since (daysBefore m) (o m) s)) + up (o m) ≡ s + down (o m)
-  unfolding shown inMonth inDay rest secondOf
+  pub label-second : secondOf (labelOf (placeIn o s m)) + up (o m) ≡ s + down (o m)
+  unfolding shown labelOf inDay rest secondOf
   label-second =
       let p = parts in
       let d : daysBefore (monthOf shown) ≡ daysBefore m = ap daysBefore month-is in
       omega (arith, since-is o m s (i .begun))
 
-  pub label-month : monthOf (inMonth m (since (daysBefore m) (o m) s)) ≡ m
+  pub label-month : monthOf (labelOf (placeIn o s m)) ≡ m
   unfolding shown rest
   label-month = month-is
 
@@ -146,25 +147,25 @@ module _ (o : Offsets) (st : Steps o) (l : Label) (e : Exists o l) (s : ℕ) (h 
   r : ℕ
   r = since (daysBefore (monthOf l)) (o (monthOf l)) s
 
-  day-is : dayOf (monthOf l) r ≡ l .day - 1
+  day-is : dayOf (monthLength (monthOf l)) r ≡ l .day - 1
   unfolding r
   day-is =
       by-order (l .second) 60
       (λ q. omega (arith, rest-is, e .hour-high, e .minute-high, e .day-low, e .day-high))
       (λ q. omega (arith, rest-is, at-end q, second-few o st l e, e .day-low))
 
-  left-is : r - 86400 * dayOf (monthOf l) r ≡ 3600 * l .hour + (60 * l .minute + l .second)
+  left-is : r - 86400 * dayOf (monthLength (monthOf l)) r ≡ 3600 * l .hour + (60 * l .minute + l .second)
   unfolding r
   left-is = omega (arith, rest-is, day-is)
 
-  minute-at : minuteOf (r - 86400 * dayOf (monthOf l) r) ≡ 60 * l .hour + l .minute
+  minute-at : minuteOf (r - 86400 * dayOf (monthLength (monthOf l)) r) ≡ 60 * l .hour + l .minute
   minute-at =
       by-order (l .second) 60
       (λ q. omega (arith, left-is, e .hour-high, e .minute-high))
       (λ q. omega (arith, left-is, at-end q, second-few o st l e))
 
-  pub label-back : inMonth (monthOf l) (since (daysBefore (monthOf l)) (o (monthOf l)) s) ≡ l
-  unfolding r inMonth inDay
+  pub label-back : labelOf (placeIn o s (monthOf l)) ≡ l
+  unfolding r labelOf inDay
   label-back =
       same
       (omega (arith, e .month-low, e .month-high))

@@ -1,8 +1,8 @@
 use mathlib.Core.Path.{refl}
 use borrow.Author.Tests.{le-leb, lt-leb}
 use Rattle.laws.proofs.Branches.{and-no, and-rest}
-use Rattle.stamp.proofs.day_in.Statement.{statement}
-use Rattle.stamp.proofs.day_in.Tie as tie
+use Rattle.labels.proofs.day_in.Statement.{statement}
+use Rattle.labels.proofs.day_in.Tie as tie
 
 returns : tie.Need-returns
 returns c = and-no _ (lt-leb _ _ (c .if1 .taken))

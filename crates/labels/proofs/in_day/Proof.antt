@@ -1,7 +1,7 @@
-use Rattle.stamp.specs.Stamps.{inDay}
+use Rattle.labels.specs.Seconds.{inDay}
 use borrow.Author.Needs.{needs}
-use Rattle.stamp.proofs.in_day.Statement.{statement}
-use Rattle.stamp.proofs.in_day.Tie as tie
+use Rattle.labels.proofs.in_day.Statement.{statement}
+use Rattle.labels.proofs.in_day.Tie as tie
 
 minute-of-requires : tie.Need-minute-of-requires
 minute-of-requires c κs = search needs

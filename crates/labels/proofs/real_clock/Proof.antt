@@ -1,9 +1,9 @@
 use mathlib.Core.Path.{refl}
 use borrow.Author.Tests.{le-leb, lt-leb}
 use Rattle.laws.proofs.Branches.{and-no, and-rest}
-use Rattle.stamp.specs.Labels.{realClock}
-use Rattle.stamp.proofs.real_clock.Statement.{statement}
-use Rattle.stamp.proofs.real_clock.Tie as tie
+use Rattle.labels.specs.Labels.{realClock}
+use Rattle.labels.proofs.real_clock.Statement.{statement}
+use Rattle.labels.proofs.real_clock.Tie as tie
 
 returns : tie.Need-returns
 unfolding realClock

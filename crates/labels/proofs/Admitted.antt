@@ -5,10 +5,10 @@ use mathlib.Core.Bool.{true}
 use Prim.Native.Nat.{ℕ, _≤_}
 use borrow.Author.Tests.{le-leb, lt-ltb}
 use Rattle.laws.proofs.Cases.{and-l, and-r, join}
-use Rattle.stamp.specs.declared.Reading.{Reading}
-use Rattle.stamp.specs.Labels.{Offsets, realYear, realMonth, realDay, realClock, hasSecond, admitted}
-use Rattle.stamp.proofs.Facts.{year-to, month-to, day-to, OnClock, clock-to, second-to}
-use Rattle.stamp.proofs.Exists.{Exists}
+use Rattle.labels.specs.declared.Reading.{Reading}
+use Rattle.labels.specs.Labels.{Offsets, realYear, realMonth, realDay, realClock, hasSecond, admitted}
+use Rattle.labels.proofs.Facts.{year-to, month-to, day-to, OnClock, clock-to, second-to}
+use Rattle.labels.proofs.Exists.{Exists}
 
 pub record Admitted (o : Offsets) (most : ℕ) (r : Reading) : Type 0 where
   pub since-1972 : 1972 ≤ r .label .year

@@ -9,11 +9,12 @@ use lib.ListN.{length, getD}
 use Rattle.laws.proofs.Cases.{lt-cases, by-order}
 use Rattle.laws.proofs.Difference.{up, down}
 use Rattle.months.specs.Months.{daysBefore, monthLength}
-use Rattle.stamp.specs.declared.Label.{Label}
-use Rattle.stamp.specs.Labels.{Offsets, label, monthOf, secondOf, Less, fields, Before}
-use Rattle.stamp.proofs.Turn.{Steps}
-use Rattle.stamp.proofs.Place.{before-later}
-use Rattle.stamp.proofs.Exists.{Exists, second-falls, at-end}
+use Rattle.labels.specs.declared.Label.{Label}
+use Rattle.labels.specs.Labels.{Offsets, label, monthOf, Less, fields, Before}
+use Rattle.labels.specs.Seconds.{secondOf}
+use Rattle.laws.proofs.Offsets.{Steps}
+use Rattle.labels.proofs.Falls.{before-later}
+use Rattle.labels.proofs.Exists.{Exists, second-falls, at-end}
 
 -- second s of TAI, or of the uniform scale, is the label's
 abbrev pub Stands : Offsets → Label → ℕ → Type 0

@@ -1,0 +1,84 @@
+-- Labels and seconds of the axis undo each other, in the years that have labels.
+-- Assumes nothing.
+use mathlib.Core.Path.{_≡_, sym, ap, _∙_}
+use Prim.Native.Nat.{ℕ, _+_, _-_, _*_, _≤_}
+use native.Mathlib.Omega.{arith}
+use Rattle.laws.proofs.Cases.{by-order}
+use Rattle.laws.proofs.Difference.{up, down}
+use Rattle.laws.proofs.Offsets.{Steps}
+use Rattle.months.specs.Months.{daysBefore}
+use Rattle.months.proofs.Laws.{days-1972, days-mono}
+use Rattle.labels.specs.declared.Label.{Label}
+use Rattle.labels.specs.Labels.{Offsets, monthOf}
+use Rattle.labels.specs.Seconds.{placeIn, labelOf, labelAt, lastMonth, monthAt, secondOf}
+use Rattle.labels.proofs.Falls.{In, Begun, Before, Covered, before-later, month-at}
+use Rattle.labels.proofs.Exists.{Exists, label-exists, label-second, label-month, second-falls, label-back}
+use Rattle.labels.proofs.Order.{Stands}
+use Rattle.labels.proofs.Guess.{falls, month-is, not-past, not-early}
+
+-- the label exists, in the years that have labels, and stands for second s of the axis
+pub record At (o : Offsets) (l : Label) (s : ℕ) : Type 0 where
+  pub since-1972 : 1972 ≤ l .year
+  pub until-9999 : l .year ≤ 9999
+  pub exists : Exists o l
+  pub stands : Stands o l s
+
+module _ (o : Offsets) (st : Steps o) where
+  -- ---- from a label to its second and back
+
+  module _ (l : Label) (s : ℕ) (a : At o l s) where
+    month-low : 23664 ≤ monthOf l
+    month-low = omega (arith, a .since-1972)
+
+    pub month-high : monthOf l ≤ 119999
+    month-high = omega (arith, a .until-9999, a .exists .month-high)
+
+    pub in-its-month : In o (monthOf l) s
+    in-its-month = second-falls o st l (a .exists) s (a .stands)
+
+    pub at-covered : Covered o s
+    at-covered =
+        record {
+          begun = by-order (s + down (o 23664)) (86400 * daysBefore 23664 + up (o 23664)) (λ h. absurd (omega (arith, in-its-month .begun, before-later o st s 23664 (monthOf l) month-low h))) (λ h. h);
+          ends = before-later o st s (monthOf l + 1) 120000 (omega (arith, month-high)) (in-its-month .ends);
+        }
+
+    pub at-label : labelAt o s ≡ l
+    unfolding labelAt
+    at-label =
+        ap (λ (k : ℕ). labelOf (placeIn o s k)) (month-at o st s (monthOf l) in-its-month lastMonth month-high)
+        ∙ label-back o st l (a .exists) s (a .stands)
+
+  -- a second has one label
+  pub one : (l l′ : Label) (s : ℕ) → At o l s → At o l′ s → l ≡ l′
+  one l l′ s a a′ = sym (at-label l s a) ∙ at-label l′ s a′
+
+  pub found : (l : Label) → 1972 ≤ l .year → l .year ≤ 9999 → Exists o l → (s : ℕ) × At o l s
+  unfolding secondOf
+  found l low high e =
+      let m = monthOf l in (
+        secondOf l + up (o m) - down (o m),
+        record { since-1972 = low; until-9999 = high; exists = e; stands = omega (arith, days-1972, days-mono 23664 m (omega arith), st .low m) },
+      )
+
+  -- ---- from a second to its label and back
+
+  module _ (s : ℕ) (v : Covered o s) where
+    pub month : ℕ
+    month = falls o st s v .0
+
+    pub in-month : In o month s
+    unfolding month
+    in-month = falls o st s v .1
+
+    pub label-at : At o (labelAt o s) s
+    unfolding labelAt month
+    label-at =
+        let e : monthAt o s lastMonth ≡ month = month-is o st s v month in-month in
+        rw e
+        (record {
+          since-1972 = omega (arith, label-month o st month s in-month, not-early o st s v month in-month, label-exists o st month s in-month .month-high);
+          until-9999 = omega (arith, label-month o st month s in-month, not-past o st s v month (in-month .begun));
+          exists = label-exists o st month s in-month;
+          stands = omega (arith, label-second o st month s in-month, ap up (ap o (label-month o st month s in-month)), ap down (ap o (label-month o st month s in-month)));
+        })

@@ -1,0 +1,9 @@
+pub mod Facts
+pub mod Turn
+pub mod Falls
+pub mod Exists
+pub mod Order
+pub mod Guess
+pub mod Admitted
+pub mod Years
+pub mod Labelled
