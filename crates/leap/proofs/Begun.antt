@@ -1,6 +1,6 @@
 -- The last entry that has begun.
 -- Assumes nothing.
-use mathlib.Core.Path.{_≡_, refl}
+use mathlib.Core.Path.{_≡_, refl, sym, ap, _∙_}
 use mathlib.Core.List.{List}
 use Prim.Native.Nat.{ℕ, zero, suc, _+_, _-_, _≤_, _<_}
 use native.Mathlib.Omega.{arith}
@@ -32,3 +32,11 @@ module _ (months : List ℕ) (m : ℕ) where
   begun-le zero = omega (arith, begun-first 0 (omega arith))
   begun-le (suc k) =
       by-order m (epoch + getD months (suc k) 0) (λ h. omega (arith, begun-less k h, begun-le k)) (λ h. omega (arith, begun-all (suc k) h))
+
+-- what has begun in month m is among what has begun in the month after it
+pub begun-within : (months : List ℕ) (m k : ℕ) → lastBegun months m (lastBegun months (m + 1) k) ≡ lastBegun months m k
+begun-within months m zero = ap (lastBegun months m) (begun-first months (m + 1) 0 (omega arith))
+begun-within months m (suc k) =
+    by-order (m + 1) (epoch + getD months (suc k) 0)
+    (λ h. ap (lastBegun months m) (begun-less months (m + 1) k h) ∙ begun-within months m k ∙ sym (begun-less months m k (omega arith)))
+    (λ h. ap (lastBegun months m) (begun-all months (m + 1) (suc k) h))

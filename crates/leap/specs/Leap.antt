@@ -8,6 +8,7 @@ use lib.IntN.{ℤ, pos, sucℤ}
 use lib.ListN.{length, getD, replicate}
 use Rattle.laws.specs.Tests.{eqZ, allBelow}
 use Rattle.leap.specs.declared.Table.{Table}
+use Rattle.leap.specs.declared.OffsetPair.{OffsetPair}
 
 -- a table of n entries in these months with these offsets
 abbrev pub tabled : ℕ → List ℕ → List ℤ → Table
@@ -69,6 +70,10 @@ top n = min n 64 - 1
 -- TAI-UTC in the calendar's month m: that of the last entry that has begun
 unfoldable pub offsetAt : Table → ℕ → ℤ
 offsetAt t m = entryOffset t (lastBegun (t .months) m (top (t .count)))
+
+-- TAI-UTC in the calendar's month m and in the one after it
+abbrev pub nearAt : Table → ℕ → OffsetPair
+nearAt t m = record { here = offsetAt t m; next = offsetAt t (m + 1) }
 
 -- ---- Bulletin C
 

@@ -7,7 +7,7 @@ ghost use Prim.Native.Nat.{_+_, _≤_, _<_};
 ghost use lib.IntN.{sucℤ};
 ghost use lib.Dec.{leb};
 ghost use Rattle.laws.specs.Tests.{eqZ, allBelow};
-ghost use Rattle.leap.specs.Leap.{tabled, oneApart, firstRight, laterRight, unusedRight, placeRight, accepted, lastBegun, offsetAt, top, bulletinC};
+ghost use Rattle.leap.specs.Leap.{tabled, oneApart, firstRight, laterRight, unusedRight, placeRight, accepted, epoch, lastBegun, offsetAt, nearAt, top, bulletinC};
 
 // `count` entries, each a month (January 1972 is 0) and TAI-UTC in seconds from its first day. Unused places are zero.
 pub struct Table {
@@ -103,15 +103,18 @@ pub fn is_accepted(t: Table) -> bool
 
 // ---- TAI-UTC
 
+// January 1972, the table's month 0, among the calendar's months from January of year 0.
+pub const EPOCH: u32 = 23664;
+
 // A month of the table has begun in the calendar's month m.
-fn has_begun(month: u32, m: u32) -> bool
-    ensures { λ r. ⌜ r ≡ leb (23664 + month) m ⌝ }
+fn has_begun(month: u32, m: u64) -> bool
+    ensures { λ r. ⌜ r ≡ leb (epoch + month) m ⌝ }
 {
-    23664 + month as u64 <= m as u64
+    EPOCH as u64 + month as u64 <= m
 }
 
 // Of the entries 0 to `from`, the last that has begun in the calendar's month m.
-fn last_begun(months: &[u32; 64], from: usize, m: u32) -> usize
+fn last_begun(months: &[u32; 64], from: usize, m: u64) -> usize
     requires { ⌜ from < 64 ⌝ }
     ensures { λ r. ⌜ (r ≡ lastBegun (now (months .entry)) m from) × (r < 64) ⌝ }
 {
@@ -141,8 +144,26 @@ fn top_of(count: usize) -> usize
 pub fn offset_at<'a>(count: usize, months: &'a [u32; 64], offsets: &'a [i32; 64], m: u32) -> i32
     ensures { λ r. ⌜ r ≡ offsetAt (tabled count (now (months .entry)) (now (offsets .entry))) m ⌝ }
 {
-    let k = last_begun(months, top_of(count), m);
+    let k = last_begun(months, top_of(count), m as u64);
     offsets[k]
+}
+
+// TAI-UTC in a month and in the month after it.
+pub struct OffsetPair {
+    pub here: i32,
+    pub next: i32,
+}
+
+// TAI-UTC in the calendar's month m and in the one after it, by one walk: what has begun in m is among what has begun in m + 1.
+pub fn near<'a>(count: usize, months: &'a [u32; 64], offsets: &'a [i32; 64], m: u32) -> OffsetPair
+    ensures { λ r. ⌜ r ≡ nearAt (tabled count (now (months .entry)) (now (offsets .entry))) m ⌝ }
+{
+    let after = last_begun(months, top_of(count), m as u64 + 1);
+    let at = last_begun(months, after, m as u64);
+    OffsetPair {
+        here: offsets[at],
+        next: offsets[after],
+    }
 }
 
 // ---- Bulletin C
