@@ -7,11 +7,11 @@ use Rattle.laws.proofs.Cases.{by-order}
 use Rattle.laws.proofs.Difference.{up, down}
 use Rattle.laws.proofs.Offsets.{Steps}
 use Rattle.months.specs.Months.{daysBefore}
-use Rattle.months.proofs.Laws.{days-1972, days-mono}
+use Rattle.months.proofs.Laws.{days-1972, days-mono, days-next, days-most, length-most}
 use Rattle.labels.specs.declared.Label.{Label}
 use Rattle.labels.specs.Labels.{Offsets, monthOf}
-use Rattle.labels.specs.Seconds.{placeIn, labelOf, labelAt, lastMonth, monthAt, secondOf}
-use Rattle.labels.proofs.Falls.{In, Begun, Before, Covered, before-later, month-at}
+use Rattle.labels.specs.Seconds.{placeIn, placeAt, labelOf, labelAt, lastMonth, monthAt, secondOf}
+use Rattle.labels.proofs.Falls.{In, Covered, since-is, before-later, month-at}
 use Rattle.labels.proofs.Exists.{Exists, label-exists, label-second, label-month, second-falls, label-back}
 use Rattle.labels.proofs.Order.{Stands}
 use Rattle.labels.proofs.Guess.{falls, month-is, not-past, not-early}
@@ -82,3 +82,25 @@ module _ (o : Offsets) (st : Steps o) where
           exists = label-exists o st month s in-month;
           stands = omega (arith, label-second o st month s in-month, ap up (ap o (label-month o st month s in-month)), ap down (ap o (label-month o st month s in-month)));
         })
+
+    pub label-month-at : monthOf (labelAt o s) ≡ placeAt o s .month
+    unfolding labelAt month
+    label-month-at =
+        let e : monthAt o s lastMonth ≡ month = month-is o st s v month in-month in
+        rw e (label-month o st month s in-month)
+
+    -- what the label shows is the place's month and second
+    pub label-shows : secondOf (labelAt o s) ≡ 86400 * placeAt o s .start + placeAt o s .second
+    unfolding labelAt month
+    label-shows =
+        let e : monthAt o s lastMonth ≡ month = month-is o st s v month in-month in
+        rw e (omega (arith, label-second o st month s in-month, since-is o month s (in-month .begun)))
+
+    -- the numbers of a place are small
+    pub place-few : (placeAt o s .start ≤ 4000000) × (placeAt o s .second ≤ 3000000)
+    unfolding month
+    place-few =
+        let e : monthAt o s lastMonth ≡ month = month-is o st s v month in-month in
+        let i = in-month in
+        rw e
+        (omega (arith, days-most month, not-past o st s v month (i .begun)), omega (arith, since-is o month s (i .begun), i .ends, days-next month, length-most month, st .low month, st .low (month + 1)))

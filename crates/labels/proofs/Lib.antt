@@ -7,3 +7,4 @@ pub mod Guess
 pub mod Admitted
 pub mod Years
 pub mod Labelled
+pub mod Uniform

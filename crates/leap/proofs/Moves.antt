@@ -1,6 +1,6 @@
 -- TAI-UTC under an accepted table: it moves by at most one from a month to the next, rests from December 9999 on, and is small.
 -- Assumes nothing.
-use mathlib.Core.Path.{_≡_, ap, _∙_}
+use mathlib.Core.Path.{_≡_, sym, ap, _∙_}
 use mathlib.Core.Logic.{⊎-elim}
 use Prim.Native.Nat.{ℕ, zero, suc, _+_, _-_, _≤_, _<_}
 use native.Mathlib.Numerals.{add-one}
@@ -9,14 +9,11 @@ use lib.IntN.{ℤ}
 use Rattle.laws.proofs.Cases.{by-order}
 use Rattle.laws.proofs.Difference.{up, down, eq-to, suc-is}
 use Rattle.laws.proofs.Machine.{one-side}
+use Rattle.laws.proofs.Offsets.{Beside, Steps}
 use Rattle.leap.specs.declared.Table.{Table}
 use Rattle.leap.specs.Leap.{entryMonth, entryOffset, epoch, lastBegun, top, offsetAt}
 use Rattle.leap.proofs.Facts.{Accepted}
 use Rattle.leap.proofs.Begun.{begun-le, begun-all, begun-less, begun-first}
-
--- z is at most one away from x
-abbrev pub Near : ℤ → ℤ → Type 0
-Near x z = (up z + down x ≤ up x + down z + 1) × (up x + down z ≤ up z + down x + 1)
 
 module _ (t : Table) (acc : Accepted t) where
   begun : ℕ → ℕ → ℕ
@@ -34,7 +31,7 @@ module _ (t : Table) (acc : Accepted t) where
   rises : (k : ℕ) → suc k < t .count → (entryMonth t k < entryMonth t (suc k)) × (entryMonth t (suc k) ≤ 96335)
   rises k h = (rw (add-one k) at (acc .rising k (omega arith)), rw (add-one k) at (acc .inside k (omega arith)))
 
-  steps : (k : ℕ) → k + 1 < t .count → Near (entryOffset t k) (entryOffset t (k + 1))
+  steps : (k : ℕ) → k + 1 < t .count → Beside (entryOffset t k) (entryOffset t (k + 1))
   steps k h =
       ⊎-elim (λ q. omega (arith, eq-to q, suc-is (entryOffset t k))) (λ q. omega (arith, eq-to q, suc-is (entryOffset t (k + 1)))) (acc .step k h)
 
@@ -52,7 +49,7 @@ module _ (t : Table) (acc : Accepted t) where
       by-order (m + 1) e (λ q. omega (arith, begun-less ms m k (omega arith), begun-less ms (m + 1) k q))
       (λ q. let a = begun-all ms (m + 1) (suc k) q in by-order m e (λ p. omega (arith, begun-less ms m k p, begun-all ms m k (omega arith))) (λ p. omega (arith, begun-all ms m (suc k) p)))
 
-  pub near : (m : ℕ) → Near (offsetAt t m) (offsetAt t (m + 1))
+  pub near : (m : ℕ) → Beside (offsetAt t m) (offsetAt t (m + 1))
   unfolding offsetAt begun last
   near m =
       let n = begun-next m last (omega (arith, last-is)) in
@@ -95,3 +92,7 @@ module _ (t : Table) (acc : Accepted t) where
   small m =
       let b = begun-le (t .months) m last in
       omega (arith, entry-small (lastBegun (t .months) m last) (omega (arith, last-is)), last-is, acc .few)
+
+  pub steps-by-months : Steps (offsetAt t)
+  steps-by-months =
+      record { by-one = near; at-rest = kept 120000 (omega arith) ∙ sym (kept 119999 (omega arith)); low = small }

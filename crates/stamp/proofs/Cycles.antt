@@ -6,16 +6,18 @@ use lib.IntN.{ℤ}
 use Rattle.months.specs.Months.{daysBefore}
 use Rattle.months.proofs.Laws.{days-split}
 use Rattle.leap.specs.declared.Table.{Table}
+use Rattle.labels.specs.declared.Reading.{Reading}
+use Rattle.labels.specs.Labels.{monthOf}
+use Rattle.labels.specs.Seconds.{timeOfDay, secondOf, axisAt}
 use Rattle.stamp.specs.declared.Scale.{Scale}
-use Rattle.stamp.specs.declared.Reading.{Reading}
-use Rattle.stamp.specs.Labels.{monthOf, timeOfDay, secondOf}
-use Rattle.stamp.specs.Instants.{fixed, offsetsOf, instantAt, instantOf}
+use Rattle.stamp.specs.Scales.{offsetsOf, toInstant}
+use Rattle.stamp.specs.Stamps.{instantFor}
 
 abbrev pub quickInstant : Table → Scale → Reading → ℤ
 quickInstant t s r =
     let m = monthOf (r .label) in
-    instantAt (86400 * ((m / 4800 * 146097 + daysBefore (m % 4800)) + (r .label .day - 1)) + timeOfDay (r .label)) (offsetsOf t s m) (r .micro) (fixed s)
+    toInstant s (axisAt (1000000 * (86400 * ((m / 4800 * 146097 + daysBefore (m % 4800)) + (r .label .day - 1)) + timeOfDay (r .label)) + r .micro) (offsetsOf t s m))
 
-pub quick-instant : (t : Table) (s : Scale) (r : Reading) → instantOf t s r ≡ quickInstant t s r
+pub quick-instant : (t : Table) (s : Scale) (r : Reading) → instantFor t s r ≡ quickInstant t s r
 unfolding secondOf
 quick-instant t s r = rw (days-split (monthOf (r .label))) refl

@@ -1,6 +1,6 @@
--- No step from a second to its instant, or back, leaves an i64.
+-- No step between what is shown, the axis and instants leaves an i64.
 -- Assumes nothing.
-use Prim.Native.Nat.{ℕ, _+_, _*_, _≤_}
+use Prim.Native.Nat.{ℕ, _+_, _*_, _≤_, _^_}
 use native.Mathlib.Omega.{arith}
 use lib.Dec.{T}
 use lib.IntN.{ℤ, pos, negsuc, natAbs, _+ℤ_, _-ℤ_, _*ℤ_}
@@ -9,90 +9,67 @@ use mir.Syntax.{w32, w64}
 use mir.Val.{SFits, Fits}
 use Rattle.laws.proofs.Difference.{sum-is, diff-is, integers}
 use Rattle.laws.proofs.Machine.{Within, one-side, fits-to, fits-from, casts-from, times-is}
-use Rattle.stamp.specs.declared.Scale.{Scale}
-use Rattle.stamp.specs.declared.Scale.the-variants.{Utc, Tai, Tdt, Gps}
-use Rattle.stamp.specs.Instants.{fixed}
-use Rattle.stamp.specs.Stamps.{dayBegins}
+use Rattle.labels.specs.Seconds.{axisAt, dayBegins}
 
-pub fixed-small : (s : Scale) → Within 100000000 100000000 (fixed s)
-fixed-small Utc = omega arith
-fixed-small Tai = omega arith
-fixed-small Tdt = omega arith
-fixed-small Gps = omega arith
-
-pub fits64 : (z : ℤ) → Within 700000000000000000 700000000000000000 z → SFits w64 z
+pub fits64 : (z : ℤ) → Within 900000000000000000 900000000000000000 z → SFits w64 z
 fits64 z h = fits-from z (omega arith) (omega arith)
 
--- ---- from a second to its instant
+-- ---- from what is shown to the axis
 
-abbrev sum : ℕ → ℤ → ℤ
-sum s o = pos s +ℤ o
+module _ (u : ℕ) (o : ℤ) (hu : u ≤ 400000000000000000) (fo : SFits w32 o) where
+  shift-in : Within 3000000000000000 3000000000000000 (pos 1000000 *ℤ o)
+  shift-in = let r = fits-to fo in omega (arith, r, times-is 1000000 o)
 
-abbrev past : ℕ → ℤ → ℤ
-past s o = sum s o -ℤ pos 63113947200
+  pub shift-fits : SFits w64 (pos 1000000 *ℤ o)
+  shift-fits = fits64 (pos 1000000 *ℤ o) (omega (arith, shift-in))
 
-abbrev micros : ℕ → ℤ → ℤ
-micros s o = pos 1000000 *ℤ past s o
+  axis-sum-in : Within 410000000000000000 3000000000000000 (pos u +ℤ (pos 1000000 *ℤ o))
+  axis-sum-in = omega (arith, shift-in, sum-is (pos u) (pos 1000000 *ℤ o), one-side (pos u +ℤ (pos 1000000 *ℤ o)))
 
-abbrev moment : ℕ → ℤ → ℕ → ℤ
-moment s o u = micros s o +ℤ pos u
+  pub axis-fits : SFits w64 (pos u +ℤ (pos 1000000 *ℤ o))
+  axis-fits = fits64 _ (omega (arith, axis-sum-in))
 
-pub record Fits5 (s u : ℕ) (o f : ℤ) : Type 0 where
-  pub sum-fits : SFits w64 (sum s o)
-  pub past-fits : SFits w64 (past s o)
-  pub micros-fits : SFits w64 (micros s o)
-  pub moment-fits : SFits w64 (moment s o u)
-  pub instant-fits : SFits w64 (moment s o u -ℤ f)
+  pub axis-in : Within 410000000000000000 3000000000000000 (axisAt u o)
+  unfolding axisAt
+  axis-in = axis-sum-in
 
-module _ (s u : ℕ) (o f : ℤ) (hs : s ≤ 400000000000) (hu : u ≤ 999999) (fo : SFits w32 o) (hf : Within 100000000 100000000 f) where
-  sum-in : Within 500000000000 3000000000 (sum s o)
-  sum-in = let r = fits-to fo in omega (arith, r, sum-is (pos s) o, one-side (sum s o))
+-- ---- from the axis to an instant
 
-  past-in : Within 500000000000 100000000000 (past s o)
-  past-in = omega (arith, sum-in, diff-is (sum s o) (pos 63113947200), one-side (past s o), one-side (sum s o))
+module _ (a f : ℤ) (ha : Within 410000000000000000 3000000000000000 a) (hf : Within 100000000 100000000 f) where
+  past-in : Within 410000000000000000 70000000000000000 (a -ℤ pos 63113947200000000)
+  past-in = omega (arith, diff-is a (pos 63113947200000000), one-side a, one-side (a -ℤ pos 63113947200000000))
 
-  micros-in : Within 500000000000000000 100000000000000000 (micros s o)
-  micros-in = omega (arith, past-in, times-is 1000000 (past s o))
+  pub past-fits : SFits w64 (a -ℤ pos 63113947200000000)
+  past-fits = fits64 _ (omega (arith, past-in))
 
-  moment-in : Within 600000000000000000 100000000000000000 (moment s o u)
-  moment-in = omega (arith, micros-in, sum-is (micros s o) (pos u), one-side (moment s o u), one-side (micros s o))
-
-  pub steps-fit : Fits5 s u o f
-  steps-fit =
-      record {
-        sum-fits = fits64 (sum s o) (omega (arith, sum-in));
-        past-fits = fits64 (past s o) (omega (arith, past-in));
-        micros-fits = fits64 (micros s o) (omega (arith, micros-in));
-        moment-fits = fits64 (moment s o u) (omega (arith, moment-in));
-        instant-fits = fits64 (moment s o u -ℤ f) (omega (arith, moment-in, diff-is (moment s o u) f, one-side (moment s o u -ℤ f), one-side (moment s o u), one-side f));
-      }
+  pub instant-fits : SFits w64 ((a -ℤ pos 63113947200000000) -ℤ f)
+  instant-fits =
+      let b : ℤ = a -ℤ pos 63113947200000000 in
+      fits64 (b -ℤ f) (omega (arith, past-in, diff-is b f, one-side b, one-side f, one-side (b -ℤ f)))
 
 -- ---- and back
-
-abbrev lifted : ℤ → ℤ → ℤ
-lifted x f = (x +ℤ f) +ℤ pos 63113947200000000
-
-pub record Lifts (x f : ℤ) : Type 0 where
-  pub shifted-fits : SFits w64 (x +ℤ f)
-  pub lifted-fits : SFits w64 (lifted x f)
-  pub lifted-casts : T (nonNeg (lifted x f)) × Fits w64 (natAbs (lifted x f))
 
 module _ (x f : ℤ) (low : negsuc 62999999999999999 ≤ℤ x) (high : x ≤ℤ pos 300000000000000000) (hf : Within 100000000 100000000 f) where
   shifted-in : Within 310000000000000000 63000000100000000 (x +ℤ f)
   shifted-in = omega (arith, integers, sum-is x f, one-side x, one-side f, one-side (x +ℤ f))
 
-  lifted-in : Within 400000000000000000 0 (lifted x f)
-  lifted-in = omega (arith, shifted-in, sum-is (x +ℤ f) (pos 63113947200000000), one-side (x +ℤ f), one-side (lifted x f))
+  pub shifted-fits : SFits w64 (x +ℤ f)
+  shifted-fits = fits64 (x +ℤ f) (omega (arith, shifted-in))
 
-  pub lifts : Lifts x f
-  lifts =
-      record {
-        shifted-fits = fits64 (x +ℤ f) (omega (arith, shifted-in));
-        lifted-fits = fits64 (lifted x f) (omega (arith, lifted-in));
-        lifted-casts = casts-from (lifted x f) (omega (arith, lifted-in)) (omega (arith, lifted-in));
-      }
+  pub lifted-in : Within 400000000000000000 0 ((x +ℤ f) +ℤ pos 63113947200000000)
+  lifted-in =
+      let y : ℤ = (x +ℤ f) +ℤ pos 63113947200000000 in
+      omega (arith, shifted-in, sum-is (x +ℤ f) (pos 63113947200000000), one-side (x +ℤ f), one-side y)
 
--- ---- a day's begin
+  pub lifted-fits : SFits w64 ((x +ℤ f) +ℤ pos 63113947200000000)
+  lifted-fits = fits64 _ (omega (arith, lifted-in))
+
+  pub lifted-casts : T (nonNeg ((x +ℤ f) +ℤ pos 63113947200000000)) × Fits w64 (natAbs ((x +ℤ f) +ℤ pos 63113947200000000))
+  lifted-casts =
+      let y : ℤ = (x +ℤ f) +ℤ pos 63113947200000000 in
+      casts-from y (omega (arith, lifted-in)) (omega (arith, lifted-in))
+
+-- ---- seconds since a day's begin
 
 module _ (d s : ℕ) (o : ℤ) (hd : d ≤ 5000000) (hs : s ≤ 500000000000) (fo : SFits w32 o) where
   begin-in : Within 500000000000 3000000000 (dayBegins d o)
@@ -101,13 +78,7 @@ module _ (d s : ℕ) (o : ℤ) (hd : d ≤ 5000000) (hs : s ≤ 500000000000) (f
   pub begin-fits : SFits w64 (dayBegins d o)
   begin-fits = fits64 (dayBegins d o) (omega (arith, begin-in))
 
-  rest-in : Within 600000000000 500000000000 (pos s -ℤ dayBegins d o)
-  rest-in = omega (arith, begin-in, diff-is (pos s) (dayBegins d o), one-side (dayBegins d o), one-side (pos s -ℤ dayBegins d o))
-
   pub rest-fits : SFits w64 (pos s -ℤ dayBegins d o)
-  rest-fits = fits64 (pos s -ℤ dayBegins d o) (omega (arith, rest-in))
-
-  pub rest-casts : dayBegins d o ≤ℤ pos s → T (nonNeg (pos s -ℤ dayBegins d o)) × Fits w64 (natAbs (pos s -ℤ dayBegins d o))
-  rest-casts h =
-      let z : ℤ = pos s -ℤ dayBegins d o in
-      casts-from z (omega (arith, integers, diff-is (pos s) (dayBegins d o), one-side z)) (omega (arith, rest-in))
+  rest-fits =
+      fits64 (pos s -ℤ dayBegins d o)
+      (omega (arith, begin-in, diff-is (pos s) (dayBegins d o), one-side (dayBegins d o), one-side (pos s -ℤ dayBegins d o)))

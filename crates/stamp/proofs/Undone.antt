@@ -3,44 +3,39 @@
 use mathlib.Core.Path.{_≡_, refl, sym, ap, ap₂, subst, _∙_}
 use mathlib.Core.Bool.{true}
 use mathlib.Core.List.{[], _∷_}
-use Prim.Native.Nat.{ℕ, _+_, _-_, _*_, _/_, _%_, _≤_}
+use Prim.Native.Nat.{ℕ, _+_, _*_, _/_, _%_, _≤_}
 use native.Mathlib.Omega.{arith}
 use lib.Dec.{leb}
-use lib.IntN.{ℤ}
-use Rattle.laws.proofs.Cases.{and-l, and-r, join, by-order}
-use Rattle.laws.proofs.Difference.{up, down, eq-from, le-leZ}
-use Rattle.months.specs.Months.{daysBefore}
-use Rattle.months.proofs.Laws.{days-1972, days-mono}
+use lib.IntN.{ℤ, pos, natAbs}
+use Rattle.laws.proofs.Cases.{and-l, and-r, join}
+use Rattle.laws.proofs.Offsets.{Steps}
 use Rattle.answer.specs.declared.Refusal.{Refusal}
-use Rattle.answer.specs.declared.Refusal.the-variants.{Ask as ASK, Table as TABLE, Range as RANGE}
-use Rattle.answer.proofs.Orders.{none-refused, was-passed}
+use Rattle.answer.specs.declared.Refusal.the-variants.{Range as RANGE}
+use Rattle.answer.specs.Refusals.{number}
+use Rattle.answer.proofs.Orders.{none-refused, was-passed, number-some}
 use Rattle.leap.specs.declared.Table.{Table}
 use Rattle.leap.specs.Leap.{accepted}
 use Rattle.leap.proofs.Facts.{Accepted, accepted-to}
+use Rattle.labels.specs.declared.Label.{Label}
+use Rattle.labels.specs.declared.Reading.{Reading}
+use Rattle.labels.specs.Labels.{Offsets, labelTests}
+use Rattle.labels.specs.Seconds.{axisOf, inYears, labelAt, readingAt}
+use Rattle.labels.proofs.Falls.{Covered}
+use Rattle.labels.proofs.Exists.{Exists}
+use Rattle.labels.proofs.Admitted.{Admitted, admitted-to, admitted-from}
+use Rattle.labels.proofs.Years.{axis-second, covered-to, covered-from}
+use Rattle.labels.proofs.Labelled.{At, at-covered, at-label, found, label-at}
 use Rattle.stamp.specs.declared.Scale.{Scale}
-use Rattle.stamp.specs.declared.Scale.the-variants.{Utc, Tai, Tdt, Gps}
 use Rattle.stamp.specs.declared.Stamp.{Stamp}
-use Rattle.stamp.specs.declared.InstantAnswer.the-variants.{At, Refused as InstantRefused}
-use Rattle.stamp.specs.declared.StampAnswer.the-variants.{Stamped, Refused as StampRefused}
-use Rattle.stamp.specs.declared.Label.{Label}
-use Rattle.stamp.specs.declared.Reading.{Reading}
-use Rattle.stamp.specs.Labels.{Offsets, monthOf, secondOf, asked}
-use Rattle.stamp.specs.Instants.{scaleOf, instantAnswer, fixed, offsetsOf, mostSecond, instantOf, countOf}
-use Rattle.stamp.specs.Stamps.{stampAnswer, first, last, inRange, inMonth, since, labelAt, readingAt, stampAt}
+use Rattle.stamp.specs.declared.InstantAnswer.{InstantAnswer}
+use Rattle.stamp.specs.declared.InstantAnswer.the-variants.{At as InstantAt, Refused as NoInstant}
+use Rattle.stamp.specs.declared.StampAnswer.{StampAnswer}
+use Rattle.stamp.specs.declared.StampAnswer.the-variants.{Stamped, Refused as NoStamp}
+use Rattle.stamp.specs.Scales.{scaleOf, scaleTests, offsetsOf, mostSecond, toInstant, toAxis}
+use Rattle.stamp.specs.Stamps.{instantFor, instantOf, instantResults, inRange, axisCount, stampAt, stampOf, stampResults}
 use Rattle.stamp.specs.Promise.{Reads, stamp, Undo}
-use Rattle.stamp.proofs.Admitted.{Admitted, admitted-to, admitted-from}
-use Rattle.stamp.proofs.Turn.{Steps, steps}
-use Rattle.stamp.proofs.Place.{In, Begun, Before, before-later, month-at}
-use Rattle.stamp.proofs.Exists.{Exists, label-exists, label-second, label-month, second-falls, label-back, second-few, second-uniform}
-use Rattle.stamp.proofs.Guess.{falls, label-is, not-past, not-early}
-use Rattle.stamp.proofs.Ends.{instant-is, count-is, first-second, last-second, days-end, range-count, range-begins, range-ends}
-
--- the highest second of a scale
-most-of : (t : Table) → Accepted t → (sc : Scale) (l : Label) → Exists (offsetsOf t sc) l → l .second ≤ mostSecond sc
-most-of t acc Utc l e = second-few (offsetsOf t Utc) (steps t acc Utc) l e
-most-of t acc Tai l e = second-uniform l e
-most-of t acc Tdt l e = second-uniform l e
-most-of t acc Gps l e = second-uniform l e
+use Rattle.stamp.proofs.Scales.{steps, most-of, axis-back, instant-back as axis-instant}
+use Rattle.stamp.proofs.Ranges.{range-low, range-high, near-axis, count-in-years}
 
 module _ (t : Table) (acc : Accepted t) (sc : Scale) where
   o : Offsets
@@ -53,147 +48,66 @@ module _ (t : Table) (acc : Accepted t) (sc : Scale) where
   -- ---- from a reading to its instant and back
 
   module _ (r : Reading) (a : Admitted o (mostSecond sc) r) where
-    l : Label
-    l = r .label
+    -- its label's second of the axis, and its microsecond
+    standing : (s : ℕ) × At o (r .label) s
+    standing = found o st (r .label) (a .since-1972) (a .until-9999) (a .exists)
 
-    m : ℕ
-    m = monthOf (r .label)
+    c : ℕ
+    c = 1000000 * standing .0 + r .micro
 
-    -- the second from year 0 on TAI, or on the uniform scale
-    n : ℕ
-    n = secondOf (r .label) + up (o m) - down (o m)
+    second-is : c / 1000000 ≡ standing .0
+    unfolding c
+    second-is = omega (arith, a .on-clock .micro-high)
 
-    month-low : 23664 ≤ m
-    unfolding m
-    month-low = omega (arith, a .since-1972)
+    axis-is : toAxis sc (instantFor t sc r) ≡ pos c
+    unfolding o c
+    axis-is = axis-back sc (axisOf (offsetsOf t sc) r) ∙ axis-second (offsetsOf t sc) r (standing .0) (standing .1 .stands)
 
-    month-high : m ≤ 119999
-    unfolding m
-    month-high = omega (arith, a .until-9999, a .exists .month-high)
-
-    n-is : n + down (o (monthOf (r .label))) ≡ secondOf (r .label) + up (o (monthOf (r .label)))
-    unfolding n m secondOf
-    n-is = omega (arith, days-1972, days-mono 23664 m month-low, st .low m)
-
-    in-its-month : In o (monthOf (r .label)) n
-    in-its-month = second-falls o st (r .label) (a .exists) n n-is
-
-    label-is-back : labelAt o n ≡ r .label
-    unfolding labelAt m
-    label-is-back =
-        ap (λ (k : ℕ). inMonth k (since (daysBefore k) (o k) n)) (month-at o st n m in-its-month 119999 month-high)
-        ∙ label-back o st (r .label) (a .exists) n n-is
-
-    begun-first : Begun o 23664 n
-    unfolding m
-    begun-first =
-        by-order (n + down (o 23664)) (86400 * daysBefore 23664 + up (o 23664))
-        (λ h. absurd (omega (arith, in-its-month .begun, before-later o st n 23664 m month-low h)))
-        (λ h. h)
-
-    before-end : Before o 120000 n
-    unfolding m
-    before-end = before-later o st n (m + 1) 120000 (omega (arith, month-high)) (in-its-month .ends)
-
-    x : ℤ
-    x = instantOf t sc r
-
-    -- the instant in naturals
-    x-is : up x + (63113947200000000 + up (fixed sc)) ≡ 1000000 * n + r .micro + down (fixed sc) + down x
-    unfolding x o m
-    x-is = omega (arith, n-is, instant-is (secondOf (r .label)) (r .micro) (offsetsOf t sc (monthOf (r .label))) (fixed sc))
-
-    there-in-range : inRange t sc (instantOf t sc r) ≡ true
-    unfolding x o inRange
+    there-in-range : inRange t sc (instantFor t sc r) ≡ true
+    unfolding o
     there-in-range =
-        join
-        (le-leZ (instantOf t sc first) (instantOf t sc r)
-        (omega (arith, x-is, begun-first, days-1972, first-second, instant-is (secondOf (first .label)) 0 (offsetsOf t sc 23664) (fixed sc))))
-        (le-leZ (instantOf t sc r) (instantOf t sc last)
-        (omega (arith, x-is, before-end, days-end, last-second, a .on-clock .micro-high, ap up (st .at-rest), ap down (st .at-rest), instant-is (secondOf (last .label)) 999999 (offsetsOf t sc 119999) (fixed sc))))
+        subst (λ (z : ℤ). inYears (offsetsOf t sc) z ≡ true) (sym axis-is)
+        (covered-from o st c (subst (Covered o) (sym second-is) (at-covered o st (r .label) (standing .0) (standing .1))))
 
-    count-back : countOf x (fixed sc) ≡ 1000000 * n + r .micro
-    count-back = omega (arith, x-is, count-is x (fixed sc) (omega (arith, x-is)))
-
-    there-back : stampAt t sc (instantOf t sc r) ≡ stamp sc r
-    unfolding x o
+    there-back : stampAt t sc (instantFor t sc r) ≡ stamp sc r
+    unfolding o c
     there-back =
-        let p : countOf (instantOf t sc r) (fixed sc) / 1000000 ≡ n = omega (arith, count-back, a .on-clock .micro-high) in
-        let q : countOf (instantOf t sc r) (fixed sc) % 1000000 ≡ r .micro = omega (arith, count-back, a .on-clock .micro-high) in
-        ap₂ (λ (l : Label) (u : ℕ). stamp sc (record { label = l; micro = u })) (ap (labelAt (offsetsOf t sc)) p ∙ label-is-back) q
+        let n : axisCount sc (instantFor t sc r) ≡ 1000000 * standing .0 + r .micro = ap (λ (z : ℤ). natAbs z) axis-is in
+        let p : axisCount sc (instantFor t sc r) / 1000000 ≡ standing .0 = omega (arith, n, a .on-clock .micro-high) in
+        let q : axisCount sc (instantFor t sc r) % 1000000 ≡ r .micro = omega (arith, n, a .on-clock .micro-high) in
+        ap₂ (λ (l : Label) (u : ℕ). stamp sc (record { label = l; micro = u })) (ap (labelAt (offsetsOf t sc)) p ∙ at-label (offsetsOf t sc) st (r .label) (standing .0) (standing .1)) q
 
   -- ---- from an instant to its stamp and back
 
   module _ (x : ℤ) (e : inRange t sc x ≡ true) where
-    c : ℕ
-    c = countOf x (fixed sc)
+    abbrev k : ℕ
+    k = axisCount sc x
 
-    s : ℕ
-    s = c / 1000000
+    there : At o (labelAt o (k / 1000000)) (k / 1000000)
+    unfolding o
+    there = label-at (offsetsOf t sc) (steps t acc sc) (k / 1000000) (covered-to (offsetsOf t sc) (steps t acc sc) k (count-in-years t acc sc x e))
 
-    found : (m : ℕ) × In o m s
-    unfolding o c s
-    found = falls o st s (range-begins t acc sc x e) (range-ends t acc sc x e)
-
-    k : ℕ
-    k = found .0
-
-    shown : Label
-    shown = inMonth k (since (daysBefore k) (o k) s)
-
-    shown-is : shown ≡ labelAt o s
-    unfolding o c s shown k
-    shown-is = label-is o st s (range-begins t acc sc x e) (range-ends t acc sc x e) k (found .1)
-
-    k-range : (23664 ≤ k) × (k ≤ 119999)
-    unfolding o c s k
-    k-range =
-        (not-early o st s (range-begins t acc sc x e) (range-ends t acc sc x e) k (found .1), not-past o st s (range-begins t acc sc x e) (range-ends t acc sc x e) k (found .1 .begun))
-
-    shown-exists : Exists o shown
-    unfolding shown k
-    shown-exists = label-exists o st k s (found .1)
-
-    shown-month : monthOf shown ≡ k
-    unfolding shown k
-    shown-month = label-month o st k s (found .1)
-
-    shown-second : secondOf shown + up (o k) ≡ s + down (o k)
-    unfolding shown k
-    shown-second = label-second o st k s (found .1)
-
-    reading : Reading
-    reading = record { label = shown; micro = c % 1000000 }
-
-    reading-is : reading ≡ readingAt o c
-    unfolding reading s
-    reading-is = ap (λ (l : Label). record { label = l; micro = c % 1000000 }) shown-is
-
-    instant-again : instantOf t sc reading ≡ x
-    unfolding reading o c s
+    instant-again : instantFor t sc (readingAt (offsetsOf t sc) k) ≡ x
+    unfolding o
     instant-again =
-        let i : ℤ = instantOf t sc reading in
-        let u = ap up (ap o shown-month) in
-        let d = ap down (ap o shown-month) in
-        eq-from i x
-        (omega (arith, shown-second, range-count t acc sc x e, instant-is (secondOf shown) (c % 1000000) (offsetsOf t sc (monthOf shown)) (fixed sc)))
+        let whole : 1000000 * (k / 1000000) + k % 1000000 ≡ k = omega arith in
+        ap (toInstant sc) (axis-second (offsetsOf t sc) (readingAt (offsetsOf t sc) k) (k / 1000000) (there .stands) ∙ ap pos whole ∙ sym (near-axis sc x (range-low t acc sc x e) (range-high t acc sc x e)))
+        ∙ axis-instant sc x
 
-    reading-admitted : Admitted o (mostSecond sc) reading
-    unfolding reading o
-    reading-admitted =
-        let g = shown-exists in
-        record {
-          since-1972 = omega (arith, shown-month, k-range, g .month-low, g .month-high);
-          until-9999 = omega (arith, shown-month, k-range, g .month-low, g .month-high);
-          exists = g;
-          on-clock = record { hour-high = g .hour-high; minute-high = g .minute-high; second-most = most-of t acc sc shown g; micro-high = omega arith };
-        }
-
-    back-reads : Reads t sc (stampAt t sc x .reading) x
-    unfolding o c
+    pub back-reads : Reads t sc (stampAt t sc x .reading) x
+    unfolding o
     back-reads =
-        subst (λ (r : Reading). Reads t sc r x) reading-is
-        (record { is-admitted = admitted-from o (mostSecond sc) reading reading-admitted; instant-is = instant-again })
+        let g = there .exists in
+        record {
+          is-admitted = admitted-from (offsetsOf t sc) (mostSecond sc) (readingAt (offsetsOf t sc) k)
+              (record {
+                since-1972 = there .since-1972;
+                until-9999 = there .until-9999;
+                exists = g;
+                on-clock = record { hour-high = g .hour-high; minute-high = g .minute-high; second-most = most-of t acc sc (labelAt (offsetsOf t sc) (k / 1000000)) g; micro-high = omega arith };
+              });
+          instant-is = instant-again;
+        }
 
 -- what a reading that stands for an instant says
 module _ (t : Table) (acc : Accepted t) (sc : Scale) (r : Reading) (x : ℤ) (q : Reads t sc r x) where
@@ -207,59 +121,72 @@ module _ (t : Table) (acc : Accepted t) (sc : Scale) (r : Reading) (x : ℤ) (q 
 
 -- ---- the calls
 
-no-instant : (x : ℤ) (why : Refusal) → InstantRefused why ≡ At x → ⊥
+no-instant : (x : ℤ) (why : Refusal) → NoInstant why ≡ InstantAt x → ⊥
 no-instant x why e = let z : _≡_ {A = ℕ} 0 1 = cc in omega arith
 
-no-stamp : (z : Stamp) (why : Refusal) → StampRefused why ≡ Stamped z → ⊥
+no-stamp : (z : Stamp) (why : Refusal) → NoStamp why ≡ Stamped z → ⊥
 no-stamp z why e = let z : _≡_ {A = ℕ} 0 1 = cc in omega arith
 
 module _ (t : Table) (k : ℕ) where
   -- what an answer that is no refusal says
-  pub instant-given : (r : Reading) (x : ℤ) → instantAnswer t k r ≡ At x → (leb k 3 ≡ true) × ((accepted t ≡ true) × Reads t (scaleOf k) r x)
-  unfolding instantAnswer
+  pub instant-given : (r : Reading) (x : ℤ) → instantOf t k r ≡ InstantAt x → (leb k 3 ≡ true) × ((accepted t ≡ true) × Reads t (scaleOf k) r x)
+  unfolding instantOf
   instant-given r x e =
-      let p = was-passed InstantRefused ((leb k 3, ASK) ∷ (accepted t, TABLE) ∷ []) _ (At x) (no-instant x) e in
-      let q = was-passed InstantRefused (asked (offsetsOf t (scaleOf k)) (mostSecond (scaleOf k)) r) _ (At x) (no-instant x) (p .1) in
+      let p = was-passed NoInstant (scaleTests t k) _ (InstantAt x) (no-instant x) e in
+      let q = was-passed NoInstant (labelTests (offsetsOf t (scaleOf k)) (mostSecond (scaleOf k)) r) _ (InstantAt x) (no-instant x) (p .1) in
       (and-l (leb k 3) _ (p .0), (search (and-l, and-r), record { is-admitted = q .0; instant-is = at (q .1) }))
     where
-      at : {y : ℤ} → At y ≡ At x → y ≡ x
+      at : {y : ℤ} → InstantAt y ≡ InstantAt x → y ≡ x
       at q = cc
 
-  pub stamp-given : (x : ℤ) (z : Stamp) → stampAnswer t x k ≡ Stamped z → (leb k 3 ≡ true) × ((accepted t ≡ true) × ((inRange t (scaleOf k) x ≡ true) × (stampAt t (scaleOf k) x ≡ z)))
-  unfolding stampAnswer
+  pub stamp-given : (x : ℤ) (z : Stamp) → stampOf t x k ≡ Stamped z → (leb k 3 ≡ true) × ((accepted t ≡ true) × ((inRange t (scaleOf k) x ≡ true) × (stampAt t (scaleOf k) x ≡ z)))
+  unfolding stampOf
   stamp-given x z e =
-      let p = was-passed StampRefused ((leb k 3, ASK) ∷ (accepted t, TABLE) ∷ []) _ (Stamped z) (no-stamp z) e in
-      let q = was-passed StampRefused ((inRange t (scaleOf k) x, RANGE) ∷ []) _ (Stamped z) (no-stamp z) (p .1) in
+      let p = was-passed NoStamp (scaleTests t k) _ (Stamped z) (no-stamp z) e in
+      let q = was-passed NoStamp ((inRange t (scaleOf k) x, RANGE) ∷ []) _ (Stamped z) (no-stamp z) (p .1) in
       (and-l (leb k 3) _ (p .0), (search (and-l, and-r), (and-l _ true (q .0), at (q .1))))
     where
       at : {y : Stamp} → Stamped y ≡ Stamped z → y ≡ z
       at q = cc
 
-  pub stamp-back : (r : Reading) (x : ℤ) → instantAnswer t k r ≡ At x → stampAnswer t x k ≡ Stamped (stamp (scaleOf k) r)
-  unfolding stampAnswer o
+  pub stamp-back : (r : Reading) (x : ℤ) → instantOf t k r ≡ InstantAt x → stampOf t x k ≡ Stamped (stamp (scaleOf k) r)
+  unfolding stampOf o
   stamp-back r x e =
       let g = instant-given r x e in
       let acc = accepted-to t (g .1 .0) in
       let a = admitted-to (offsetsOf t (scaleOf k)) (mostSecond (scaleOf k)) r (g .1 .1 .is-admitted) in
       let i = g .1 .1 .instant-is in
-      none-refused StampRefused ((leb k 3, ASK) ∷ (accepted t, TABLE) ∷ []) _ (join (g .0) (join (g .1 .0) refl))
-      ∙ none-refused StampRefused ((inRange t (scaleOf k) x, RANGE) ∷ []) _ (join (subst (λ (y : ℤ). inRange t (scaleOf k) y ≡ true) i (there-in-range t acc (scaleOf k) r a)) refl)
+      none-refused NoStamp (scaleTests t k) _ (join (g .0) (join (g .1 .0) refl))
+      ∙ none-refused NoStamp ((inRange t (scaleOf k) x, RANGE) ∷ []) _ (join (subst (λ (y : ℤ). inRange t (scaleOf k) y ≡ true) i (there-in-range t acc (scaleOf k) r a)) refl)
       ∙ ap Stamped (subst (λ (y : ℤ). stampAt t (scaleOf k) y ≡ stamp (scaleOf k) r) i (there-back t acc (scaleOf k) r a))
 
-  pub instant-back : (z : Stamp) (x : ℤ) → stampAnswer t x k ≡ Stamped z → (z .scale ≡ scaleOf k) × (instantAnswer t k (z .reading) ≡ At x)
-  unfolding instantAnswer
+  pub instant-back : (z : Stamp) (x : ℤ) → stampOf t x k ≡ Stamped z → (z .scale ≡ scaleOf k) × (instantOf t k (z .reading) ≡ InstantAt x)
+  unfolding instantOf
   instant-back z x e =
       let g = stamp-given x z e in
       let q = g .1 .1 .1 in
       let b : Reads t (scaleOf k) (z .reading) x = subst (λ (y : Stamp). Reads t (scaleOf k) (y .reading) x) q (back-reads t (accepted-to t (g .1 .0)) (scaleOf k) x (g .1 .1 .0)) in (
         ap (λ (y : Stamp). y .scale) (sym q),
-        none-refused InstantRefused ((leb k 3, ASK) ∷ (accepted t, TABLE) ∷ []) _ (join (g .0) (join (g .1 .0) refl))
-            ∙ none-refused InstantRefused (asked (offsetsOf t (scaleOf k)) (mostSecond (scaleOf k)) (z .reading)) _ (b .is-admitted)
-            ∙ ap At (b .instant-is),
+        none-refused NoInstant (scaleTests t k) _ (join (g .0) (join (g .1 .0) refl))
+            ∙ none-refused NoInstant (labelTests (offsetsOf t (scaleOf k)) (mostSecond (scaleOf k)) (z .reading)) _ (b .is-admitted)
+            ∙ ap InstantAt (b .instant-is),
       )
 
-  none : (x : ℤ) → stampAnswer t x k ≡ StampRefused RANGE → (r : Reading) → instantAnswer t k r ≡ At x → ⊥
-  none x e r q = no-stamp (stamp (scaleOf k) r) RANGE (sym e ∙ stamp-back r x q)
+-- ---- from an answer's numbers back to the answer: number 0 is no refusal's, and 7 is RANGE's alone
 
-  pub undo : Undo t k
-  undo = record { reads = λ r x e. instant-given r x e .1 .1; stamp-back = stamp-back; instant-back = instant-back; none = none }
+pub at-instant : (a : InstantAnswer) (x : ℤ) → instantResults a ≡ (0, x) → a ≡ InstantAt x
+at-instant (InstantAt y) x e = ap (λ v. InstantAt (v .1)) e
+at-instant (NoInstant why) x e = absurd (number-some why (ap (λ v. v .0) e))
+
+pub at-stamp : (a : StampAnswer) (z : Stamp) → stampResults a ≡ (0, z) → a ≡ Stamped z
+at-stamp (Stamped u) z e = ap (λ v. Stamped (v .1)) e
+at-stamp (NoStamp why) z e = absurd (number-some why (ap (λ v. v .0) e))
+
+pub undo : (t : Table) (k : ℕ) → Undo t k
+undo t k =
+    record {
+      is-that-of-the-reading = λ r x e. instant-given t k r x (at-instant _ x e) .1 .1;
+      comes-back-as-the-reading = λ r x e. ap stampResults (stamp-back t k r x (at-instant _ x e));
+      comes-back-as-the-instant = λ x z e. let b = instant-back t k z x (at-stamp _ z e) in (b .0, ap instantResults (b .1));
+      out-of-range = λ x e r g. let z : _≡_ {A = ℕ} 0 7 = sym (ap (λ a. stampResults a .0) (stamp-back t k r x (at-instant _ x g))) ∙ e in omega arith;
+    }

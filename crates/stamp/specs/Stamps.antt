@@ -1,94 +1,100 @@
--- The stamp of an instant, and the call that answers it. That it is the one admitted stamp of that instant is `Undo` of Promise.
+-- The instant of a stamp, the stamp of an instant, and the calls that answer them. That each undoes the other is `Undo` of Promise.
 -- Assumes nothing.
-use mathlib.Core.Bool.{Bool, cond, _&&_}
-use mathlib.Core.List.{[], _∷_}
-use Prim.Native.Nat.{ℕ, zero, suc, _+_, _*_, _-_, _/_, _%_, min}
-use lib.IntN.{ℤ, pos, natAbs, _+ℤ_, _-ℤ_}
-use lib.Signed.{leZ}
-use Rattle.answer.specs.declared.Refusal.the-variants.{Range as RANGE}
+use mathlib.Core.Bool.{Bool, _&&_}
+use mathlib.Core.List.{List, [], _∷_, _++_}
+use Prim.Native.Nat.{ℕ, _/_, _%_}
+use lib.Dec.{leb}
+use lib.IntN.{ℤ, pos, natAbs}
+use Rattle.answer.specs.declared.Refusal.{Refusal}
+use Rattle.answer.specs.declared.Refusal.the-variants.{NoSecond as NOSECOND, Range as RANGE}
 use Rattle.answer.specs.Refusals.{number, refusing}
-use Rattle.months.specs.Months.{daysBefore, monthLength}
 use Rattle.leap.specs.declared.Table.{Table}
+use Rattle.labels.specs.declared.Reading.{Reading}
+use Rattle.labels.specs.Labels.{uniform, noLabel, whole, labelTests, hasSecond}
+use Rattle.labels.specs.Seconds.{microOf, axisOf, first, last, inYears, placeAt, readingAt}
 use Rattle.stamp.specs.declared.Scale.{Scale}
 use Rattle.stamp.specs.declared.Scale.the-variants.{Utc}
-use Rattle.stamp.specs.declared.Label.{Label}
-use Rattle.stamp.specs.declared.Reading.{Reading}
 use Rattle.stamp.specs.declared.Stamp.{Stamp}
+use Rattle.stamp.specs.declared.InstantAnswer.{InstantAnswer}
+use Rattle.stamp.specs.declared.InstantAnswer.the-variants.{At, Refused}
+use Rattle.stamp.specs.declared.Moment.{Moment}
+use Rattle.stamp.specs.declared.MomentAnswer.{MomentAnswer}
+use Rattle.stamp.specs.declared.MomentAnswer.the-variants.{In, Refused as Nowhere}
 use Rattle.stamp.specs.declared.StampAnswer.{StampAnswer}
-use Rattle.stamp.specs.declared.StampAnswer.the-variants.{Stamped, Refused}
-use Rattle.stamp.specs.Labels.{Offsets, label, noLabel}
-use Rattle.stamp.specs.Instants.{scaleOf, fixed, offsetsOf, countOf, instantOf, called}
+use Rattle.stamp.specs.declared.StampAnswer.the-variants.{Stamped, Refused as NoStamp}
+use Rattle.stamp.specs.declared.ShownAnswer.{ShownAnswer}
+use Rattle.stamp.specs.declared.ShownAnswer.the-variants.{Shows, Refused as NotShown}
+use Rattle.stamp.specs.Scales.{scaleOf, scaleTests, offsetsOf, mostSecond, toInstant, toAxis}
 
--- ---- the label of a second
+-- ---- the instant of a stamp
 
--- the TAI second at which day d begins where TAI is o seconds on; seconds and days are counted from year 0
-abbrev pub dayBegins : ℕ → ℤ → ℤ
-dayBegins d o = pos (86400 * d) +ℤ o
+abbrev pub instantFor : Table → Scale → Reading → ℤ
+instantFor t s r = toInstant s (axisOf (offsetsOf t s) r)
 
--- and month m
-abbrev pub begins : Offsets → ℕ → ℤ
-begins o m = dayBegins (daysBefore m) (o m)
+abbrev pub instantIn : Table → Scale → Reading → InstantAnswer
+instantIn t s r = refusing Refused (labelTests (offsetsOf t s) (mostSecond s) r) (At (instantFor t s r))
 
--- of the months 0 to m the last that has begun at second s
-unfoldable pub monthAt : Offsets → ℕ → ℕ → ℕ
-monthAt o s zero = 0
-monthAt o s (suc m) = cond (leZ (begins o (suc m)) (pos s)) (suc m) (monthAt o s m)
+-- `instant_of`
+unfoldable pub instantOf : Table → ℕ → Reading → InstantAnswer
+instantOf t k r = refusing Refused (scaleTests t k) (instantIn t (scaleOf k) r)
 
--- second r of a day is in this minute; the last minute takes what is left
-abbrev pub minuteOf : ℕ → ℕ
-minuteOf r = min (r / 60) 1439
-
--- second r of day d of month m, both counted from 0
-unfoldable pub inDay : ℕ → ℕ → ℕ → Label
-inDay m d r = label (m / 12) (m % 12 + 1) (d + 1) (minuteOf r / 60) (minuteOf r % 60) (r - 60 * minuteOf r)
-
--- second r of month m is in this day; the last day takes what is left
-abbrev pub dayOf : ℕ → ℕ → ℕ
-dayOf m r = min (r / 86400) (monthLength m - 1)
-
-unfoldable pub inMonth : ℕ → ℕ → Label
-inMonth m r = inDay m (dayOf m r) (r - 86400 * dayOf m r)
-
--- the seconds since day d began
-unfoldable pub since : ℕ → ℤ → ℕ → ℕ
-since d o s = natAbs (pos s -ℤ dayBegins d o)
-
-abbrev pub labelIn : Offsets → ℕ → ℕ → Label
-labelIn o s m = inMonth m (since (daysBefore m) (o m) s)
-
-unfoldable pub labelAt : Offsets → ℕ → Label
-labelAt o s = labelIn o s (monthAt o s 119999)
+-- an answer in the scope's numbers: that of the refusal, 0 on success, and the instant, zero on a refusal
+abbrev pub instantResults : InstantAnswer → ℕ × ℤ
+instantResults (At x) = (0, x)
+instantResults (Refused why) = (number why, pos 0)
 
 -- ---- the stamp of an instant
 
-abbrev pub readingAt : Offsets → ℕ → Reading
-readingAt o c = record { label = labelAt o (c / 1000000); micro = c % 1000000 }
+-- range is judged on the axis, from the scale's first label to its last
+abbrev pub inRange : Table → Scale → ℤ → Bool
+inRange t s x = inYears (offsetsOf t s) (toAxis s x)
+
+-- the microsecond of the axis, which in range is not negative
+abbrev pub axisCount : Scale → ℤ → ℕ
+axisCount s x = natAbs (toAxis s x)
+
+-- where it falls: a second of a month, and the microsecond of that
+abbrev pub momentAt : Table → Scale → ℤ → Moment
+momentAt t s x = record { scale = s; place = placeAt (offsetsOf t s) (axisCount s x / 1000000); micro = axisCount s x % 1000000 }
+
+abbrev pub momentIn : Table → Scale → ℤ → MomentAnswer
+momentIn t s x = refusing Nowhere ((inRange t s x, RANGE) ∷ []) (In (momentAt t s x))
+
+unfoldable pub momentOf : Table → ℤ → ℕ → MomentAnswer
+momentOf t x k = refusing Nowhere (scaleTests t k) (momentIn t (scaleOf k) x)
 
 abbrev pub stampAt : Table → Scale → ℤ → Stamp
-stampAt t s x = record { scale = s; reading = readingAt (offsetsOf t s) (countOf x (fixed s)) }
+stampAt t s x = record { scale = s; reading = readingAt (offsetsOf t s) (axisCount s x) }
 
-abbrev pub first : Reading
-first = record { label = label 1972 1 1 0 0 0; micro = 0 }
-
-abbrev pub last : Reading
-last = record { label = label 9999 12 31 23 59 59; micro = 999999 }
-
--- from the scale's first label to its last
-unfoldable pub inRange : Table → Scale → ℤ → Bool
-inRange t s x = leZ (instantOf t s first) x && leZ x (instantOf t s last)
-
-abbrev pub timeAnswer : Table → Scale → ℤ → StampAnswer
-timeAnswer t s x = refusing Refused ((inRange t s x, RANGE) ∷ []) (Stamped (stampAt t s x))
+abbrev pub stampIn : Table → Scale → ℤ → StampAnswer
+stampIn t s x = refusing NoStamp ((inRange t s x, RANGE) ∷ []) (Stamped (stampAt t s x))
 
 -- `stamp_of`
-unfoldable pub stampAnswer : Table → ℤ → ℕ → StampAnswer
-stampAnswer t x k = refusing Refused (called t k) (timeAnswer t (scaleOf k) x)
+unfoldable pub stampOf : Table → ℤ → ℕ → StampAnswer
+stampOf t x k = refusing NoStamp (scaleTests t k) (stampIn t (scaleOf k) x)
 
 -- every number of it zero
 abbrev pub noStamp : Stamp
-noStamp = record { scale = Utc; reading = record { label = noLabel; micro = 0 } }
+noStamp = record { scale = Utc; reading = whole noLabel }
 
 -- an answer in the scope's numbers: that of the refusal, 0 on success, and the stamp, all zero on a refusal
 abbrev pub stampResults : StampAnswer → ℕ × Stamp
 stampResults (Stamped z) = (0, z)
-stampResults (Refused why) = (number why, noStamp)
+stampResults (NoStamp why) = (number why, noStamp)
+
+-- ---- what a scale shows, in microseconds of days of 86,400 seconds: for Julian dates
+
+abbrev pub shownIn : Table → Scale → ℤ → ShownAnswer
+shownIn t s x = refusing NotShown ((inRange t s x, RANGE) ∷ []) (Shows (microOf (stampAt t s x .reading)))
+
+-- `shown_of`
+unfoldable pub shownOf : Table → ℤ → ℕ → ShownAnswer
+shownOf t x k = refusing NotShown (scaleTests t k) (shownIn t (scaleOf k) x)
+
+abbrev pub showingTests : Table → Scale → ℕ → List (Bool × Refusal)
+showingTests t s u =
+    (leb (microOf first) u && leb u (microOf last), RANGE) ∷ (hasSecond (offsetsOf t s) (readingAt uniform u .label), NOSECOND) ∷ []
+
+-- `instant_showing`: of the reading that shows it and has no second 60
+unfoldable pub instantShowing : Table → Scale → ℕ → InstantAnswer
+instantShowing t s u = refusing Refused (showingTests t s u) (At (instantFor t s (readingAt uniform u)))

@@ -1,16 +1,26 @@
-// Scales, labels and stamps: which labels exist, the instant of a stamp, and the stamp of an instant.
-// An instant is a count of TAI microseconds from 2000-01-01 12:00:00 TAI.
+// Scales and stamps: the instant of a stamp, and the stamp of an instant.
+// An instant is a count of TAI microseconds from 2000-01-01 12:00:00 TAI; a scale's own axis counts microseconds from year 0.
 ghost use mathlib.Core.Path.{_≡_};
 ghost use mathlib.Core.Bool.{true};
-ghost use Prim.Native.Nat.{_+_, _-_, _*_, _/_, _≤_, _<_, min};
-ghost use lib.IntN.{ℤ, pos, negsuc};
-ghost use lib.Signed.{leZ, _≤ℤ_, _<ℤ_};
+ghost use mathlib.Core.List.{[], _∷_};
+ghost use Prim.Native.Nat.{_+_, _*_, _/_, _≤_};
+ghost use lib.IntN.{pos, negsuc, _-ℤ_};
+ghost use lib.Signed.{_≤ℤ_};
+ghost use Rattle.answer.specs.declared.Refusal.the-variants.{NoSecond as NOSECOND};
+ghost use Rattle.answer.specs.Refusals.{refusing};
 ghost use Rattle.leap.specs.Leap.{tabled, accepted};
-ghost use Rattle.months.specs.Months.{daysBefore, monthLength};
-ghost use Rattle.stamp.specs.Labels.{lastMinute, monthOf, minuteIn, realYear, realMonth, dayIn, realClock, secondOf};
-ghost use Rattle.stamp.specs.Instants.{scaleOf, scaleNumber, fixed, offsetsOf, firstOffset, mostSecond, instantAt, countOf, fieldsAnswer, instantAnswer};
-ghost use Rattle.stamp.specs.Stamps.{dayBegins, begins, minuteOf, inDay, inMonth, since, labelAt, inRange, timeAnswer, stampAnswer};
+ghost use Rattle.months.specs.Months.{daysBefore};
+ghost use Rattle.labels.specs.declared.Judged.the-variants.{Real};
+ghost use Rattle.labels.specs.Labels.{uniform, monthOf, judged, hasSecond};
+ghost use Rattle.labels.specs.Seconds.{microOf, axisAt, inYears, dayBegins, placeAt};
+ghost use Rattle.stamp.specs.Scales.{scaleOf, scaleNumber, asked, fixed, offsetsOf, firstOffset, mostSecond, toInstant};
+ghost use Rattle.stamp.specs.Stamps.{instantFor, instantIn, instantOf, inRange, axisCount, momentIn, momentOf, stampOf, shownOf, instantShowing};
 use answer::Refusal;
+use labels::Judged;
+use labels::Month;
+use labels::Place;
+use labels::Reading;
+use leap::OffsetPair;
 use leap::Table;
 
 pub enum Scale {
@@ -20,25 +30,15 @@ pub enum Scale {
     Gps,
 }
 
-// A calendar label of whole seconds.
-pub struct Label {
-    pub year: u32,
-    pub month: u32,
-    pub day: u32,
-    pub hour: u32,
-    pub minute: u32,
-    pub second: u32,
-}
-
-pub struct Reading {
-    pub label: Label,
-    pub micro: u32,
-}
-
 // A reading never goes without its scale.
 pub struct Stamp {
     pub scale: Scale,
     pub reading: Reading,
+}
+
+pub enum ScaleAnswer {
+    On(Scale),
+    Refused(Refusal),
 }
 
 pub enum InstantAnswer {
@@ -51,8 +51,36 @@ pub enum StampAnswer {
     Refused(Refusal),
 }
 
+// What a scale shows, in microseconds from year 0 on days of 86,400 seconds.
+pub enum ShownAnswer {
+    Shows(u64),
+    Refused(Refusal),
+}
+
+// Where an instant falls on its scale: a second of a month, and the microsecond of that.
+struct Moment {
+    scale: Scale,
+    place: Place,
+    micro: u32,
+}
+
+enum MomentAnswer {
+    In(Moment),
+    Refused(Refusal),
+}
+
+// A microsecond that a scale shows, where TAI is `offset` seconds on, as the axis counts it.
+fn axis_at(micro: u64, offset: i32) -> i64
+    requires { ⌜ micro ≤ 400000000000000000 ⌝ }
+    ensures { λ r. ⌜ r ≡ axisAt micro offset ⌝ }
+{
+    let u = micro as i64;
+    let o = offset as i64;
+    u + 1000000 * o
+}
+
 impl Scale {
-    // A uniform reading less the instant, in microseconds.
+    // The axis less the instant, in microseconds.
     pub const TAI: i64 = 0;
 
     pub const TDT: i64 = 32184000;
@@ -62,10 +90,13 @@ impl Scale {
     // The largest number that a scale has.
     pub const MOST: u32 = 3;
 
-    // The first and the last second that every scale labels, counted from year 0 on days of 86,400 seconds.
-    pub const FIRST: u64 = 62230291200;
+    // The first and the last microsecond that every scale shows.
+    pub const FIRST: u64 = 62230291200000000;
 
-    pub const LAST: u64 = 315569519999;
+    pub const LAST: u64 = 315569519999999999;
+
+    // December 9999.
+    const LAST_MONTH: u32 = 119999;
 
     // The scale of a number; 3 and above give GPS.
     pub fn numbered(number: u32) -> Scale
@@ -95,16 +126,7 @@ impl Scale {
         }
     }
 
-    fn fixed(self) -> i64
-        ensures { λ r. ⌜ r ≡ fixed self ⌝ }
-    {
-        match self {
-            Scale::Utc => 0,
-            Scale::Tai => Scale::TAI,
-            Scale::Tdt => Scale::TDT,
-            Scale::Gps => Scale::GPS,
-        }
-    }
+    // ---- its calendar rule
 
     fn most_second(self) -> u32
         ensures { λ r. ⌜ r ≡ mostSecond self ⌝ }
@@ -117,19 +139,25 @@ impl Scale {
         }
     }
 
-    // TAI less the scale in month m, in whole seconds; what is fixed is not counted.
-    fn offset<'a>(self, count: usize, months: &'a [u32; 64], offsets: &'a [i32; 64], m: u32) -> i32
-        ensures { λ r. ⌜ r ≡ offsetsOf (tabled count (now (months .entry)) (now (offsets .entry))) self m ⌝ }
+    // TAI less the scale in month m and in the next, in whole seconds.
+    fn near<'a>(
+        self,
+        count: usize,
+        months: &'a [u32; 64],
+        offsets: &'a [i32; 64],
+        m: u32,
+    ) -> OffsetPair
+        ensures { λ r. ⌜ (r .here ≡ offsetsOf (tabled count (now (months .entry)) (now (offsets .entry))) self m) × (r .next ≡ offsetsOf (tabled count (now (months .entry)) (now (offsets .entry))) self (m + 1)) ⌝ }
     {
         match self {
-            Scale::Utc => leap::offset_at(count, months, offsets, m),
-            Scale::Tai => 0,
-            Scale::Tdt => 0,
-            Scale::Gps => 0,
+            Scale::Utc => leap::near(count, months, offsets, m),
+            Scale::Tai => OffsetPair { here: 0, next: 0 },
+            Scale::Tdt => OffsetPair { here: 0, next: 0 },
+            Scale::Gps => OffsetPair { here: 0, next: 0 },
         }
     }
 
-    // The offset in January 1972, the first month of every accepted table.
+    // In January 1972, the first month of every accepted table.
     fn first_offset(self) -> i32
         ensures { λ r. ⌜ r ≡ firstOffset self ⌝ }
     {
@@ -141,130 +169,105 @@ impl Scale {
         }
     }
 
-    // The instant of a second counted from year 0, where TAI is `offset` seconds on.
-    fn instant(self, second: u64, offset: i32, micro: u32) -> i64
-        requires { ⌜ (second ≤ 400000000000) × (micro ≤ 999999) ⌝ }
-        ensures { λ r. ⌜ r ≡ instantAt second offset micro (fixed self) ⌝ }
+    // In December 9999.
+    fn last_offset<'a>(self, count: usize, months: &'a [u32; 64], offsets: &'a [i32; 64]) -> i32
+        ensures { λ r. ⌜ r ≡ offsetsOf (tabled count (now (months .entry)) (now (offsets .entry))) self 119999 ⌝ }
     {
-        let s = second as i64;
-        let o = offset as i64;
-        let u = micro as i64;
-        let f = self.fixed();
-        1000000 * (s + o - 63113947200) + u - f
+        match self {
+            Scale::Utc => leap::offset_at(count, months, offsets, Scale::LAST_MONTH),
+            Scale::Tai => 0,
+            Scale::Tdt => 0,
+            Scale::Gps => 0,
+        }
     }
 
-    // An instant as microseconds of the scale from year 0, as if all days had 86,400 seconds.
-    fn count(self, instant: i64) -> u64
+    // ---- its map between axis and instants
+
+    fn fixed(self) -> i64
+        ensures { λ r. ⌜ r ≡ fixed self ⌝ }
+    {
+        match self {
+            Scale::Utc => 0,
+            Scale::Tai => Scale::TAI,
+            Scale::Tdt => Scale::TDT,
+            Scale::Gps => Scale::GPS,
+        }
+    }
+
+    // The instant at which the scale shows a microsecond, where TAI is `offset` seconds on.
+    fn instant(self, micro: u64, offset: i32) -> i64
+        requires { ⌜ micro ≤ 400000000000000000 ⌝ }
+        ensures { λ r. ⌜ r ≡ toInstant self (axisAt micro offset) ⌝ }
+    {
+        let a = axis_at(micro, offset);
+        let f = self.fixed();
+        a - 63113947200000000 - f
+    }
+
+    fn axis(self, instant: i64) -> u64
         requires { ⌜ (negsuc 62999999999999999 ≤ℤ instant) × (instant ≤ℤ pos 300000000000000000) ⌝ }
-        ensures { λ r. ⌜ r ≡ countOf instant (fixed self) ⌝ }
+        ensures { λ r. ⌜ r ≡ axisCount self instant ⌝ }
     {
         let f = self.fixed();
         (instant + f + 63113947200000000) as u64
     }
 }
 
-// ---- which labels exist
-
-pub fn real_year(l: Label) -> bool
-    ensures { λ r. ⌜ r ≡ realYear l ⌝ }
+// What every call with a table and a scale is asked first.
+pub fn asked<'a>(
+    count: usize,
+    months: &'a [u32; 64],
+    offsets: &'a [i32; 64],
+    scale: u32,
+) -> ScaleAnswer
+    ensures { λ r. ⌜ r ≡ asked (tabled count (now (months .entry)) (now (offsets .entry))) scale ⌝ }
 {
-    if l.year < 1972 {
-        return false;
+    if Scale::MOST < scale {
+        return ScaleAnswer::Refused(Refusal::Ask);
     }
-    l.year <= 9999
+    if !leap::is_accepted_in(count, months, offsets) {
+        return ScaleAnswer::Refused(Refusal::Table);
+    }
+    ScaleAnswer::On(Scale::numbered(scale))
 }
 
-pub fn real_month(l: Label) -> bool
-    ensures { λ r. ⌜ r ≡ realMonth l ⌝ }
-{
-    if l.month < 1 {
-        return false;
-    }
-    l.month <= 12
-}
+// ---- a stamp to its instant
 
-// A month of so many days has the label's day.
-pub fn day_in(days: u32, l: Label) -> bool
-    ensures { λ r. ⌜ r ≡ dayIn days l ⌝ }
-{
-    if l.day < 1 {
-        return false;
-    }
-    l.day <= days
-}
-
-pub fn real_clock(most: u32, r: Reading) -> bool
-    ensures { λ b. ⌜ b ≡ realClock most r ⌝ }
+// What a reading shows, whose month has `start` days before it.
+fn micro_of(r: Reading, start: u64) -> u64
+    requires { ⌜ (start ≡ daysBefore (monthOf (r .label))) × (start ≤ 4000000) ⌝ }
+    requires { ⌜ (1 ≤ r .label .day) × ((r .label .day ≤ 31) × ((r .label .hour ≤ 23) × ((r .label .minute ≤ 59) × ((r .label .second ≤ 60) × (r .micro ≤ 999999))))) ⌝ }
+    ensures { λ u. ⌜ (u ≡ microOf r) × (u ≤ 400000000000000000) ⌝ }
 {
     let l = r.label;
-    if 23 < l.hour {
-        return false;
-    }
-    if 59 < l.minute {
-        return false;
-    }
-    if most < l.second {
-        return false;
-    }
-    r.micro <= 999999
+    let day = start + (l.day - 1) as u64;
+    let time = 3600 * l.hour + (60 * l.minute + l.second);
+    1000000 * (86400 * day + time as u64) + r.micro as u64
 }
 
-pub fn last_minute(here: i32, next: i32) -> u32
-    ensures { λ r. ⌜ r ≡ lastMinute here next ⌝ }
-{
-    if here < next {
-        return 61;
-    }
-    if next < here {
-        return 59;
-    }
-    60
-}
-
-// The seconds of the label's minute; only the last minute of month m asks for its offset and the next month's.
-fn minute_in<'a>(
+// The instant of a reading whose fields were judged, if the scale has its second.
+fn instant_judged<'a>(
     scale: Scale,
     count: usize,
     months: &'a [u32; 64],
     offsets: &'a [i32; 64],
-    m: u32,
-    next: u32,
-    l: Label,
-    length: u32,
-) -> u32
-    requires { ⌜ length ≡ monthLength (monthOf l) ⌝ }
-    ensures { λ r. ⌜ r ≡ minuteIn (offsetsOf (tabled count (now (months .entry)) (now (offsets .entry))) scale m) (offsetsOf (tabled count (now (months .entry)) (now (offsets .entry))) scale next) l ⌝ }
+    r: Reading,
+    month: Month,
+) -> InstantAnswer
+    requires { ⌜ judged (mostSecond scale) r ≡ Real month ⌝ }
+    ensures { λ a. ⌜ a ≡ refusing InstantAnswer.Refused ((hasSecond (offsetsOf (tabled count (now (months .entry)) (now (offsets .entry))) scale) (r .label), NOSECOND) ∷ []) (InstantAnswer.At (instantFor (tabled count (now (months .entry)) (now (offsets .entry))) scale r)) ⌝ }
 {
-    if l.day != length {
-        return 60;
+    let l = r.label;
+    let m = month.number;
+    let near = scale.near(count, months, offsets, m);
+    let here = near.here;
+    if labels::minute_length(month.days, here, near.next, l) <= l.second {
+        return InstantAnswer::Refused(Refusal::NoSecond);
     }
-    if l.hour != 23 {
-        return 60;
-    }
-    if l.minute != 59 {
-        return 60;
-    }
-    last_minute(
-        scale.offset(count, months, offsets, m),
-        scale.offset(count, months, offsets, next),
-    )
+    InstantAnswer::At(scale.instant(micro_of(r, months::days_before(m)), here))
 }
 
-fn second_of(l: Label, start: u64) -> u64
-    requires { ⌜ (start ≡ daysBefore (monthOf l)) × (start ≤ 4000000) ⌝ }
-    requires { ⌜ (1 ≤ l .day) × ((l .day ≤ 31) × ((l .hour ≤ 23) × ((l .minute ≤ 59) × (l .second ≤ 60)))) ⌝ }
-    ensures { λ r. ⌜ (r ≡ secondOf l) × (r ≤ 400000000000) ⌝ }
-{
-    let day = l.day as u64;
-    let hour = l.hour as u64;
-    let minute = l.minute as u64;
-    let second = l.second as u64;
-    86400 * (start + (day - 1)) + (3600 * hour + (60 * minute + second))
-}
-
-// ---- fields to an instant
-
-// The instant of a reading, or the first thing that is wrong with it: for callers that have judged scale and table.
+// The instant of a reading, or the first thing that is wrong with it: for callers that have asked for scale and table.
 pub fn instant_in<'a>(
     scale: Scale,
     count: usize,
@@ -272,166 +275,94 @@ pub fn instant_in<'a>(
     offsets: &'a [i32; 64],
     r: Reading,
 ) -> InstantAnswer
-    ensures { λ a. ⌜ a ≡ fieldsAnswer (tabled count (now (months .entry)) (now (offsets .entry))) scale r ⌝ }
+    ensures { λ a. ⌜ a ≡ instantIn (tabled count (now (months .entry)) (now (offsets .entry))) scale r ⌝ }
 {
-    let l = r.label;
-    let micro = r.micro;
-    if !real_year(l) {
-        return InstantAnswer::Refused(Refusal::Year);
+    match labels::judge(scale.most_second(), r) {
+        Judged::Real(month) => instant_judged(scale, count, months, offsets, r, month),
+        Judged::Refused(why) => InstantAnswer::Refused(why),
     }
-    if !real_month(l) {
-        return InstantAnswer::Refused(Refusal::Date);
-    }
-    let year = l.year;
-    let month = l.month;
-    let m = 12 * year + (month - 1);
-    let span = calendar::month(m);
-    if !day_in(span.length, l) {
-        return InstantAnswer::Refused(Refusal::Date);
-    }
-    if !real_clock(scale.most_second(), r) {
-        return InstantAnswer::Refused(Refusal::Clock);
-    }
-    let next = m + 1;
-    if minute_in(scale, count, months, offsets, m, next, l, span.length) <= l.second {
-        return InstantAnswer::Refused(Refusal::NoSecond);
-    }
-    let here = scale.offset(count, months, offsets, m);
-    InstantAnswer::At(scale.instant(second_of(l, span.start), here, micro))
 }
 
 pub fn instant_of(t: Table, scale: u32, r: Reading) -> InstantAnswer
-    ensures { λ a. ⌜ a ≡ instantAnswer t scale r ⌝ }
+    ensures { λ a. ⌜ a ≡ instantOf t scale r ⌝ }
 {
-    if Scale::MOST < scale {
-        return InstantAnswer::Refused(Refusal::Ask);
-    }
-    if !leap::is_accepted_in(t.count, &t.months, &t.offsets) {
-        return InstantAnswer::Refused(Refusal::Table);
-    }
     let count = t.count;
-    instant_in(Scale::numbered(scale), count, &t.months, &t.offsets, r)
+    match asked(count, &t.months, &t.offsets, scale) {
+        ScaleAnswer::On(s) => instant_in(s, count, &t.months, &t.offsets, r),
+        ScaleAnswer::Refused(why) => InstantAnswer::Refused(why),
+    }
 }
 
-// ---- an instant to a stamp
+// ---- an instant to its stamp
 
-// The day has begun at a TAI second, where TAI is `offset` seconds on.
-fn has_begun(day: u64, offset: i32, second: u64) -> bool
+// The seconds of the axis since a day began, where TAI is `offset` seconds on; negative before it.
+fn elapsed(day: u64, offset: i32, second: u64) -> i64
     requires { ⌜ (day ≤ 5000000) × (second ≤ 500000000000) ⌝ }
-    ensures { λ r. ⌜ r ≡ leZ (dayBegins day offset) (pos second) ⌝ }
+    ensures { λ r. ⌜ r ≡ pos second -ℤ dayBegins day offset ⌝ }
 {
     let d = (86400 * day) as i64;
     let o = offset as i64;
     let s = second as i64;
-    d + o <= s
+    s - (d + o)
 }
 
-// Month m has begun, whose first day is `day`. No offset is below -128 seconds: up to then the table is not asked.
-fn month_begun<'a>(
+// The month that a microsecond of the axis falls in, and the second of it. Offsets are at most 73 seconds: the month of 128 seconds
+// before is that month or the one before it, whose end the same read of the calendar gives.
+fn place_at<'a>(
     scale: Scale,
     count: usize,
     months: &'a [u32; 64],
     offsets: &'a [i32; 64],
-    m: u32,
-    day: u64,
-    second: u64,
-) -> bool
+    axis: u64,
+) -> Place
     requires { ⌜ accepted (tabled count (now months) (now offsets)) ≡ true ⌝ }
-    requires { ⌜ (day ≤ 5000000) × (second ≤ 500000000000) ⌝ }
-    ensures { λ r. ⌜ r ≡ leZ (dayBegins day (offsetsOf (tabled count (now (months .entry)) (now (offsets .entry))) scale m)) (pos second) ⌝ }
+    requires { ⌜ inYears (offsetsOf (tabled count (now months) (now offsets)) scale) (pos axis) ≡ true ⌝ }
+    ensures { λ r. ⌜ r ≡ placeAt (offsetsOf (tabled count (now (months .entry)) (now (offsets .entry))) scale) (axis / 1000000) ⌝ }
 {
-    if second + 128 < 86400 * day {
-        return false;
-    }
-    has_begun(day, scale.offset(count, months, offsets, m), second)
-}
-
-// The seconds since a day began.
-fn since_begun(day: u64, offset: i32, second: u64) -> u64
-    requires { ⌜ (day ≤ 5000000) × (second ≤ 500000000000) ⌝ }
-    requires { ⌜ dayBegins day offset ≤ℤ pos second ⌝ }
-    ensures { λ r. ⌜ r ≡ since day offset second ⌝ }
-{
-    let d = (86400 * day) as i64;
-    let o = offset as i64;
-    let s = second as i64;
-    (s - (d + o)) as u64
-}
-
-fn minute_of(rest: u32) -> u32
-    ensures { λ r. ⌜ r ≡ minuteOf rest ⌝ }
-{
-    let minute = rest / 60;
-    if 1439 < minute {
-        return 1439;
-    }
-    minute
-}
-
-fn in_day(m: u32, d: u32, rest: u32) -> Label
-    requires { ⌜ d ≤ 31 ⌝ }
-    ensures { λ r. ⌜ r ≡ inDay m d rest ⌝ }
-{
-    let minute = minute_of(rest);
-    Label {
-        year: m / 12,
-        month: m % 12 + 1,
-        day: d + 1,
-        hour: minute / 60,
-        minute: minute % 60,
-        second: rest - 60 * minute,
-    }
-}
-
-fn day_of(length: u32, rest: u32) -> u32
-    requires { ⌜ 1 ≤ length ⌝ }
-    ensures { λ r. ⌜ r ≡ min (rest / 86400) (length - 1) ⌝ }
-{
-    let day = rest / 86400;
-    if length - 1 < day {
-        return length - 1;
-    }
-    day
-}
-
-fn in_month(m: u32, length: u32, rest: u32) -> Label
-    requires { ⌜ (length ≡ monthLength m) ⌝ }
-    ensures { λ r. ⌜ r ≡ inMonth m rest ⌝ }
-{
-    let day = day_of(length, rest);
-    in_day(m, day, rest - 86400 * day)
-}
-
-// The label of a second of TAI, or of the uniform scale, counted from year 0. Offsets are at most 73 seconds: the month of 128 seconds
-// before is the label's month or the one before it, whose end the same read of the calendar gives.
-fn label_at<'a>(
-    scale: Scale,
-    count: usize,
-    months: &'a [u32; 64],
-    offsets: &'a [i32; 64],
-    second: u64,
-) -> Label
-    requires { ⌜ accepted (tabled count (now months) (now offsets)) ≡ true ⌝ }
-    requires { ⌜ (begins (offsetsOf (tabled count (now months) (now offsets)) scale) 23664 ≤ℤ pos second) × (pos second <ℤ begins (offsetsOf (tabled count (now months) (now offsets)) scale) 120000) ⌝ }
-    ensures { λ r. ⌜ r ≡ labelAt (offsetsOf (tabled count (now (months .entry)) (now (offsets .entry))) scale) second ⌝ }
-{
+    let second = axis / 1000000;
     let span = calendar::month_of_day(((second - 128) / 86400) as u32);
     let m = span.number;
+    let near = scale.near(count, months, offsets, m);
     let end = span.start + span.length as u64;
-    let next = m + 1;
-    if month_begun(scale, count, months, offsets, next, end, second) {
-        let offset = scale.offset(count, months, offsets, next);
-        return in_day(next, 0, since_begun(end, offset, second) as u32);
+    let past = elapsed(end, near.next, second);
+    if 0 <= past {
+        return Place {
+            month: m + 1,
+            start: end,
+            days: calendar::month_length(m + 1),
+            second: past as u32,
+        };
     }
-    let offset = scale.offset(count, months, offsets, m);
-    in_month(
-        m,
-        span.length,
-        since_begun(span.start, offset, second) as u32,
-    )
+    let rest = elapsed(span.start, near.here, second);
+    Place {
+        month: m,
+        start: span.start,
+        days: span.length,
+        second: rest as u32,
+    }
 }
 
-// The scale has a label for the instant.
+// The scale has a label for a microsecond of its axis.
+fn in_years<'a>(
+    scale: Scale,
+    count: usize,
+    months: &'a [u32; 64],
+    offsets: &'a [i32; 64],
+    axis: u64,
+) -> bool
+    requires { ⌜ (accepted (tabled count (now months) (now offsets)) ≡ true) × (axis ≤ 400000000000000000) ⌝ }
+    ensures { λ r. ⌜ r ≡ inYears (offsetsOf (tabled count (now (months .entry)) (now (offsets .entry))) scale) (pos axis) ⌝ }
+{
+    let first = axis_at(Scale::FIRST, scale.first_offset());
+    let last = axis_at(Scale::LAST, scale.last_offset(count, months, offsets));
+    let a = axis as i64;
+    if a < first {
+        return false;
+    }
+    a <= last
+}
+
+// The scale has a label for the instant. None so far from 2000 has one, and nearer ones have their place on the axis.
 fn in_range<'a>(
     scale: Scale,
     count: usize,
@@ -442,37 +373,51 @@ fn in_range<'a>(
     requires { ⌜ accepted (tabled count (now months) (now offsets)) ≡ true ⌝ }
     ensures { λ r. ⌜ r ≡ inRange (tabled count (now (months .entry)) (now (offsets .entry))) scale instant ⌝ }
 {
-    let a = scale.first_offset();
-    let b = scale.offset(count, months, offsets, 119999);
-    let first = scale.instant(Scale::FIRST, a, 0);
-    let last = scale.instant(Scale::LAST, b, 999999);
-    let begun = first <= instant;
-    if !begun {
+    if instant < -63000000000000000 {
         return false;
     }
-    instant <= last
+    if 300000000000000000 < instant {
+        return false;
+    }
+    in_years(scale, count, months, offsets, scale.axis(instant))
 }
 
-fn stamp_in<'a>(
+fn moment_in<'a>(
     scale: Scale,
     count: usize,
     months: &'a [u32; 64],
     offsets: &'a [i32; 64],
     instant: i64,
-) -> StampAnswer
+) -> MomentAnswer
     requires { ⌜ accepted (tabled count (now months) (now offsets)) ≡ true ⌝ }
-    ensures { λ r. ⌜ r ≡ timeAnswer (tabled count (now (months .entry)) (now (offsets .entry))) scale instant ⌝ }
+    ensures { λ r. ⌜ r ≡ momentIn (tabled count (now (months .entry)) (now (offsets .entry))) scale instant ⌝ }
 {
     if !in_range(scale, count, months, offsets, instant) {
-        return StampAnswer::Refused(Refusal::Range);
+        return MomentAnswer::Refused(Refusal::Range);
     }
-    let c = scale.count(instant);
-    let label = label_at(scale, count, months, offsets, c / 1000000);
-    let reading = Reading {
-        label,
-        micro: (c % 1000000) as u32,
-    };
-    StampAnswer::Stamped(Stamp { scale, reading })
+    let axis = scale.axis(instant);
+    let place = place_at(scale, count, months, offsets, axis);
+    let micro = (axis % 1000000) as u32;
+    MomentAnswer::In(Moment {
+        scale,
+        place,
+        micro,
+    })
+}
+
+fn moment_of<'a>(
+    count: usize,
+    months: &'a [u32; 64],
+    offsets: &'a [i32; 64],
+    instant: i64,
+    scale: u32,
+) -> MomentAnswer
+    ensures { λ r. ⌜ r ≡ momentOf (tabled count (now (months .entry)) (now (offsets .entry))) instant scale ⌝ }
+{
+    match asked(count, months, offsets, scale) {
+        ScaleAnswer::On(s) => moment_in(s, count, months, offsets, instant),
+        ScaleAnswer::Refused(why) => MomentAnswer::Refused(why),
+    }
 }
 
 // For callers that lend the arrays: a table by value is copied.
@@ -483,19 +428,86 @@ pub fn stamp_of_in<'a>(
     instant: i64,
     scale: u32,
 ) -> StampAnswer
-    ensures { λ r. ⌜ r ≡ stampAnswer (tabled count (now (months .entry)) (now (offsets .entry))) instant scale ⌝ }
+    ensures { λ r. ⌜ r ≡ stampOf (tabled count (now (months .entry)) (now (offsets .entry))) instant scale ⌝ }
 {
-    if Scale::MOST < scale {
-        return StampAnswer::Refused(Refusal::Ask);
+    match moment_of(count, months, offsets, instant, scale) {
+        MomentAnswer::In(m) => {
+            let label = labels::label_of(m.place);
+            let reading = Reading {
+                label,
+                micro: m.micro,
+            };
+            let scale = m.scale;
+            StampAnswer::Stamped(Stamp { scale, reading })
+        }
+        MomentAnswer::Refused(why) => StampAnswer::Refused(why),
     }
-    if !leap::is_accepted_in(count, months, offsets) {
-        return StampAnswer::Refused(Refusal::Table);
-    }
-    stamp_in(Scale::numbered(scale), count, months, offsets, instant)
 }
 
 pub fn stamp_of(t: Table, instant: i64, scale: u32) -> StampAnswer
-    ensures { λ r. ⌜ r ≡ stampAnswer t instant scale ⌝ }
+    ensures { λ r. ⌜ r ≡ stampOf t instant scale ⌝ }
 {
     stamp_of_in(t.count, &t.months, &t.offsets, instant, scale)
+}
+
+// ---- what a scale shows
+
+// What a scale shows at an instant.
+pub fn shown_of<'a>(
+    count: usize,
+    months: &'a [u32; 64],
+    offsets: &'a [i32; 64],
+    instant: i64,
+    scale: u32,
+) -> ShownAnswer
+    ensures { λ r. ⌜ r ≡ shownOf (tabled count (now (months .entry)) (now (offsets .entry))) instant scale ⌝ }
+{
+    match moment_of(count, months, offsets, instant, scale) {
+        MomentAnswer::In(m) => {
+            let p = m.place;
+            ShownAnswer::Shows(1000000 * (86400 * p.start + p.second as u64) + m.micro as u64)
+        }
+        MomentAnswer::Refused(why) => ShownAnswer::Refused(why),
+    }
+}
+
+// The place of a microsecond from 1972 to 9999 on days of 86,400 seconds.
+fn place_showing(micro: u64) -> Place
+    requires { ⌜ (62230291200000000 ≤ micro) × (micro ≤ 315569519999999999) ⌝ }
+    ensures { λ r. ⌜ r ≡ placeAt uniform (micro / 1000000) ⌝ }
+{
+    let second = micro / 1000000;
+    let span = calendar::month_of_day((second / 86400) as u32);
+    Place {
+        month: span.number,
+        start: span.start,
+        days: span.length,
+        second: (second - 86400 * span.start) as u32,
+    }
+}
+
+// The instant at which a scale shows a microsecond, in a second that is no 60: for callers that have asked for scale and table.
+pub fn instant_showing<'a>(
+    scale: Scale,
+    count: usize,
+    months: &'a [u32; 64],
+    offsets: &'a [i32; 64],
+    micro: u64,
+) -> InstantAnswer
+    ensures { λ a. ⌜ a ≡ instantShowing (tabled count (now (months .entry)) (now (offsets .entry))) scale micro ⌝ }
+{
+    if micro < Scale::FIRST {
+        return InstantAnswer::Refused(Refusal::Range);
+    }
+    if Scale::LAST < micro {
+        return InstantAnswer::Refused(Refusal::Range);
+    }
+    let p = place_showing(micro);
+    let l = labels::label_of(p);
+    let near = scale.near(count, months, offsets, p.month);
+    let here = near.here;
+    if labels::minute_length(p.days, here, near.next, l) <= l.second {
+        return InstantAnswer::Refused(Refusal::NoSecond);
+    }
+    InstantAnswer::At(scale.instant(micro, here))
 }

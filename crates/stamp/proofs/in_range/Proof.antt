@@ -1,64 +1,66 @@
-use mathlib.Core.Path.{_≡_, sym, ap₂, _∙_}
-use borrow.Author.Needs.{sfits-of}
-use borrow.Author.Tests.{not-true, not-false}
-use lib.Signed.{leZ}
-use mir.Syntax.{w32, w64}
-use mir.Val.{SFits, toZ, ofZ}
-use mir.Facts.{toZ-ofZ}
-use Rattle.laws.proofs.Branches.{and-no, and-rest}
-use Rattle.leap.specs.Leap.{tabled}
-use Rattle.leap.proofs.Facts.{accepted-to}
-use Rattle.stamp.specs.Instants.{fixed, instantAt, instantOf}
-use Rattle.stamp.specs.Stamps.{first, last, inRange}
-use Rattle.stamp.proofs.Turn.{first-offset}
-use Rattle.stamp.proofs.Ends.{first-second, last-second}
+-- `stamp::in_range` meets its contract: outside the code's window no instant is in range.
+-- Assumes nothing.
+use mathlib.Core.Path.{_≡_, sym, ap, _∙_}
+use mathlib.Core.Bool.{true, false}
+use Prim.Native.Nat.{_+_, _≤_, _<_}
+use native.Mathlib.Omega.{arith}
 use borrow.Author.Needs.{needs}
+use lib.IntN.{ℤ, pos, negsuc}
+use lib.Signed.{ltZ, _≤ℤ_}
+use mir.Syntax.{w64}
+use mir.Val.{toZ, ofZ}
+use mir.Facts.{toZ-ofZ}
+use Rattle.laws.proofs.Difference.{up, down, ltZ-true, ltZ-false, le-from}
+use Rattle.leap.specs.declared.Table.{Table}
+use Rattle.leap.specs.Leap.{tabled}
+use Rattle.leap.proofs.Facts.{Accepted, accepted-to}
+use Rattle.labels.specs.Seconds.{inYears}
+use Rattle.stamp.specs.Scales.{offsetsOf, toAxis}
+use Rattle.stamp.specs.Stamps.{inRange, axisCount}
+use Rattle.stamp.proofs.Ranges.{too-early, too-late, near-axis, near-count}
 use Rattle.stamp.proofs.in_range.Statement.{statement}
 use Rattle.stamp.proofs.in_range.Tie as tie
 
--- the two ends
-first-is : (c : tie.After-instant) → toZ w64 (ofZ w64 (c .instant .result)) ≡ instantOf (tabled (c .before .before .before .args .count) (c .before .before .before .args .months .now) (c .before .before .before .args .offsets .now)) (c .before .before .before .args .scale) first
-first-is c =
-    let s = c .before .before .before in
-    let f = fixed (s .args .scale) in
-    let a : SFits w32 (c .before .before .first-offset .result) = sfits-of (c .before .before .first-offset .ok) in
-    let r : SFits w64 (c .instant .result) = sfits-of (c .instant .ok) in
-    toZ-ofZ r ∙ c .instant .ensures ∙ ap₂ (λ s o. instantAt s o 0 f) (sym first-second) (toZ-ofZ a ∙ c .before .before .first-offset .ensures ∙ first-offset _ (accepted-to _ (s .pre)) (s .args .scale))
+module _ (c : tie.Start) where
+  abbrev table : Table
+  table = tabled (c .args .count) (c .args .months .now) (c .args .offsets .now)
 
-last-is : (c : tie.After-instant2) → toZ w64 (ofZ w64 (c .instant2 .result)) ≡ instantOf (tabled (c .before .before .before .before .args .count) (c .before .before .before .before .args .months .now) (c .before .before .before .before .args .offsets .now)) (c .before .before .before .before .args .scale) last
-last-is c =
-    let f = fixed (c .before .before .before .before .args .scale) in
-    let a : SFits w32 (c .before .before .offset .result) = sfits-of (c .before .before .offset .ok) in
-    let r : SFits w64 (c .instant2 .result) = sfits-of (c .instant2 .ok) in
-    toZ-ofZ r ∙ c .instant2 .ensures ∙ ap₂ (λ s o. instantAt s o 999999 f) (sym last-second) (toZ-ofZ a ∙ c .before .before .offset .ensures)
+  acc : Accepted table
+  acc = accepted-to _ (c .pre)
 
-first-offset-requires : tie.Need-first-offset-requires
-first-offset-requires c κs = search needs
+  -- the instant reaches its callees by its bits
+  same : toZ w64 (ofZ w64 (c .args .instant)) ≡ c .args .instant
+  same = toZ-ofZ (c .fits .instant)
 
-offset-requires : tie.Need-offset-requires
-offset-requires c κs = search needs
+module _ (c : tie.Else2) where
+  abbrev s : tie.Start
+  s = c .before .before
 
-instant-requires : tie.Need-instant-requires
-instant-requires c κs = search needs
+  low : negsuc 62999999999999999 ≤ℤ s .args .instant
+  low =
+      let z : ltZ (toZ w64 (ofZ w64 (s .args .instant))) (negsuc 62999999999999999) ≡ false = c .before .if1 .left in
+      le-from (negsuc 62999999999999999) (s .args .instant) (ltZ-false (s .args .instant) (negsuc 62999999999999999) (ap (λ (x : ℤ). ltZ x (negsuc 62999999999999999)) (sym (same s)) ∙ z))
 
-instant-requires-2 : tie.Need-instant-requires-2
-instant-requires-2 c κs = search needs
-
-returns : tie.Need-returns
-unfolding inRange
-returns c = and-no _ (ap₂ leZ (sym (first-is (c .before .before))) (sym (toZ-ofZ (c .before .before .before .before .before .fits .instant))) ∙ not-true _ (c .if1 .taken))
-
-returns-2 : tie.Need-returns-2
-unfolding inRange
-returns-2 c = and-rest (ap₂ leZ (sym (first-is (c .before .before))) (sym (toZ-ofZ (c .before .before .before .before .before .fits .instant))) ∙ not-false _ (c .if1 .left)) (ap₂ leZ (toZ-ofZ (c .before .before .before .before .before .fits .instant)) (last-is (c .before)))
+  high : s .args .instant ≤ℤ pos 300000000000000000
+  high =
+      let z : ltZ (pos 300000000000000000) (toZ w64 (ofZ w64 (s .args .instant))) ≡ false = c .if2 .left in
+      le-from (s .args .instant) (pos 300000000000000000) (ltZ-false (pos 300000000000000000) (s .args .instant) (ap (ltZ (pos 300000000000000000)) (sym (same s)) ∙ z))
 
 pub in-range-spec : {M : Type 1} → statement M
 in-range-spec =
     tie.close
     (tie.spec
-    first-offset-requires
-    offset-requires
-    instant-requires
-    instant-requires-2
-    returns
-    returns-2)
+    (λ c. let b = c .before in
+    let z : ltZ (toZ w64 (ofZ w64 (b .args .instant))) (negsuc 62999999999999999) ≡ true = c .if1 .taken in
+    sym (too-early (table b) (acc b) (b .args .scale) (b .args .instant) (omega (arith, ltZ-true (b .args .instant) (negsuc 62999999999999999) (ap (λ (x : ℤ). ltZ x (negsuc 62999999999999999)) (sym (same b)) ∙ z)))))
+    (λ c. let b = c .before .before in
+    let z : ltZ (pos 300000000000000000) (toZ w64 (ofZ w64 (b .args .instant))) ≡ true = c .if2 .taken in
+    sym (too-late (table b) (acc b) (b .args .scale) (b .args .instant) (omega (arith, ltZ-true (pos 300000000000000000) (b .args .instant) (ap (ltZ (pos 300000000000000000)) (sym (same b)) ∙ z)))))
+    (λ c κs. rw (same (s c)) (low c, high c))
+    (λ c κs. let e = c .before in
+    let b = s e in
+    (b .pre, omega (arith, rw (same b) at (c .axis .ensures), near-count (b .args .scale) (b .args .instant) (low e) (high e))))
+    (λ c. let e = c .before .before in
+    let b = s e in
+    c .in-years .ensures
+    ∙ ap (λ (a : ℤ). inYears (offsetsOf (table b) (b .args .scale)) a) (ap pos (rw (same b) at (c .before .axis .ensures)) ∙ sym (near-axis (b .args .scale) (b .args .instant) (low e) (high e)))))

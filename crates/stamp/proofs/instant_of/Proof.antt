@@ -1,45 +1,28 @@
-use mathlib.Core.Path.{ap, _∙_}
-use borrow.Author.Tests.{le-leb, lt-leb}
-use Rattle.laws.proofs.Branches.{fails, holds}
-use Rattle.answer.proofs.Orders.{refused, passed}
-use Rattle.stamp.specs.declared.Scale.{Scale}
-use Rattle.stamp.specs.Instants.{fieldsAnswer, instantAnswer}
+use mathlib.Core.Path.{_≡_, sym, _∙_}
 use borrow.Author.Needs.{needs}
+use Rattle.stamp.specs.declared.InstantAnswer.the-variants.{Refused}
+use Rattle.stamp.specs.declared.ScaleAnswer.{ScaleAnswer}
+use Rattle.stamp.specs.Stamps.{instantIn, instantOf}
+use Rattle.stamp.proofs.First.{onScale, then-asked}
 use Rattle.stamp.proofs.instant_of.Statement.{statement}
 use Rattle.stamp.proofs.instant_of.Tie as tie
 
-returns : tie.Need-returns
-unfolding instantAnswer
-returns c = refused _ _ (lt-leb _ _ (c .if1 .taken))
+module _ (c : tie.After-asked) where
+  abbrev s : tie.Start
+  s = c .before .before .before .before
 
-is-accepted-in-requires : tie.Need-is-accepted-in-requires
-is-accepted-in-requires c κs = search needs
-
-returns-2 : tie.Need-returns-2
-unfolding instantAnswer
-returns-2 c = passed _ (le-leb _ _ (c .before .before .before .before .before .if1 .left)) (refused _ _ (fails (c .before .is-accepted-in .ensures) (c .if2 .taken)))
-
-numbered-requires : tie.Need-numbered-requires
-numbered-requires c κs = search needs
-
-instant-in-requires : tie.Need-instant-in-requires
-instant-in-requires c κs = search needs
-
-returns-3 : tie.Need-returns-3
-unfolding instantAnswer
-returns-3 c =
-    let e2 = c .before .before .before .before .before in
-    let e1 = e2 .before .before .before .before .before in
-    let a = e1 .before .args in
-    passed _ (le-leb _ _ (e1 .if1 .left)) (passed _ (holds (e2 .before .is-accepted-in .ensures) (e2 .if2 .left)) (c .instant-in .ensures ∙ ap (λ (s : Scale). fieldsAnswer (a .t1) s (a .r)) (c .before .before .before .before .numbered .ensures)))
+  answered : {v : ScaleAnswer} → c .asked .result ≡ v → onScale Refused (λ k. instantIn (s .args .t1) k (s .args .r)) v ≡ instantOf (s .args .t1) (s .args .scale) (s .args .r)
+  unfolding instantOf
+  answered e = then-asked (s .args .t1) (s .args .scale) Refused (λ k. instantIn (s .args .t1) k (s .args .r)) (sym (c .asked .ensures) ∙ e)
 
 pub instant-of-spec : {M : Type 1} → statement M
 instant-of-spec =
     tie.close
     (tie.spec
-    returns
-    is-accepted-in-requires
-    returns-2
-    numbered-requires
-    instant-in-requires
-    returns-3)
+    (λ c κs. search needs)
+    (λ c. search needs)
+    (λ c κs. search needs)
+    (λ c. search needs)
+    (λ c. let k = c .before .before .before .before .before in
+    c .instant-in .ensures ∙ answered (k .before .before) (k .s .given .1))
+    (λ c. answered (c .before .before .before) (c .before .why .given .1)))

@@ -1,7 +1,7 @@
 use lib.IntN.{ℤ}
 use borrow.Author.Needs.{needs}
 use Rattle.laws.proofs.Machine.{read1}
-use Rattle.stamp.specs.Stamps.{stampAnswer}
+use Rattle.stamp.specs.Stamps.{stampOf}
 use Rattle.stamp.proofs.stamp_of.Statement.{statement}
 use Rattle.stamp.proofs.stamp_of.Tie as tie
 
@@ -11,4 +11,4 @@ stamp-of-spec =
     (tie.spec
     (λ c κs. search needs)
     (λ c. let s = c .before .before .before .before in
-    read1 (λ (x : ℤ). stampAnswer (s .args .t1) x (s .args .scale)) (s .fits .instant) (c .stamp-of-in .ensures)))
+    read1 (λ (x : ℤ). stampOf (s .args .t1) x (s .args .scale)) (s .fits .instant) (c .stamp-of-in .ensures)))

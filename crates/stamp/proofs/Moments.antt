@@ -1,0 +1,92 @@
+-- What is answered where an instant falls: its stamp, and what its scale shows there.
+-- Assumes nothing.
+use mathlib.Core.Path.{_≡_, refl, sym, ap, subst, _∙_}
+use mathlib.Core.Bool.{Bool, true, false, cond}
+use mathlib.Core.List.{List, [], _∷_, _++_}
+use Prim.Native.Nat.{ℕ, _+_, _*_, _/_, _%_, _≤_}
+use native.Mathlib.Omega.{arith}
+use lib.IntN.{ℤ}
+use Rattle.laws.proofs.Cases.{and-l, and-r, join}
+use Rattle.laws.proofs.Offsets.{Steps}
+use Rattle.answer.specs.declared.Refusal.{Refusal}
+use Rattle.answer.specs.declared.Refusal.the-variants.{Range as RANGE}
+use Rattle.answer.specs.Refusals.{refusing, allPass}
+use Rattle.answer.proofs.Orders.{refusing-map, was-passed}
+use Rattle.months.proofs.Laws.{days-most}
+use Rattle.leap.specs.declared.Table.{Table}
+use Rattle.leap.specs.Leap.{accepted}
+use Rattle.leap.proofs.Facts.{Accepted, accepted-to}
+use Rattle.labels.specs.Labels.{Offsets}
+use Rattle.labels.specs.Seconds.{microOf, secondOf, placeAt, labelOf, labelAt}
+use Rattle.labels.proofs.Falls.{Covered}
+use Rattle.labels.proofs.Labelled.{label-shows, place-few}
+use Rattle.labels.proofs.Years.{covered-to}
+use Rattle.stamp.specs.declared.Scale.{Scale}
+use Rattle.stamp.specs.declared.Moment.{Moment}
+use Rattle.stamp.specs.declared.MomentAnswer.{MomentAnswer}
+use Rattle.stamp.specs.declared.MomentAnswer.the-variants.{In, Refused as Nowhere}
+use Rattle.stamp.specs.declared.StampAnswer.{StampAnswer}
+use Rattle.stamp.specs.declared.StampAnswer.the-variants.{Stamped, Refused as NoStamp}
+use Rattle.stamp.specs.declared.ShownAnswer.{ShownAnswer}
+use Rattle.stamp.specs.declared.ShownAnswer.the-variants.{Shows, Refused as NotShown}
+use Rattle.stamp.specs.Scales.{scaleOf, scaleTests, offsetsOf}
+use Rattle.stamp.specs.Stamps.{inRange, axisCount, momentAt, momentOf, stampAt, stampOf, shownOf}
+use Rattle.stamp.proofs.Scales.{steps}
+use Rattle.stamp.proofs.Ranges.{count-in-years}
+
+abbrev pub stamped : MomentAnswer → StampAnswer
+stamped (In m) = Stamped (record { scale = m .scale; reading = record { label = labelOf (m .place); micro = m .micro } })
+stamped (Nowhere why) = NoStamp why
+
+abbrev pub shown : MomentAnswer → ShownAnswer
+shown (In m) = Shows (1000000 * (86400 * m .place .start + m .place .second) + m .micro)
+shown (Nowhere why) = NotShown why
+
+-- two orders with the same tests answer alike where their answers are the same once all tests pass
+refusing-same : {A : Type 0} (refuse : Refusal → A) (tests : List (Bool × Refusal)) (a b : A) → (allPass tests ≡ true → a ≡ b) → refusing refuse tests a ≡ refusing refuse tests b
+refusing-same refuse [] a b h = h refl
+refusing-same refuse (test ∷ tests) a b h = go (test .0) refl (λ f. refusing-same refuse tests a b f)
+  where
+    go : (c : Bool) → test .0 ≡ c → ((allPass tests ≡ true → a ≡ b) → refusing refuse tests a ≡ refusing refuse tests b) → cond c (refusing refuse tests a) (refuse (test .1)) ≡ cond c (refusing refuse tests b) (refuse (test .1))
+    go true e ih = ih (λ p. h (join e p))
+    go false e ih = refl
+
+module _ (t : Table) (x : ℤ) (k : ℕ) where
+  abbrev sc : Scale
+  sc = scaleOf k
+
+  abbrev o : Offsets
+  o = offsetsOf t (scaleOf k)
+
+  abbrev tests : List (Bool × Refusal)
+  tests = scaleTests t k ++ (inRange t (scaleOf k) x, RANGE) ∷ []
+
+  pub stamp-of-moment : stamped (momentOf t x k) ≡ stampOf t x k
+  unfolding momentOf stampOf labelAt
+  stamp-of-moment = refusing-map stamped Nowhere tests (In (momentAt t sc x))
+
+  -- past all tests the second is in the years that have labels
+  module _ (all : allPass tests ≡ true) where
+    acc : Accepted t
+    acc = accepted-to t (search (and-l, and-r))
+
+    covered : Covered o (axisCount sc x / 1000000)
+    covered = covered-to o (steps t acc sc) (axisCount sc x) (count-in-years t acc sc x (search (and-l, and-r)))
+
+    shows : shown (In (momentAt t sc x)) ≡ Shows (microOf (stampAt t sc x .reading))
+    shows = ap (λ (n : ℕ). Shows (1000000 * n + axisCount sc x % 1000000)) (sym (label-shows o (steps t acc sc) (axisCount sc x / 1000000) covered))
+
+  pub shown-of-moment : shown (momentOf t x k) ≡ shownOf t x k
+  unfolding momentOf shownOf
+  shown-of-moment = refusing-map shown Nowhere tests (In (momentAt t sc x)) ∙ refusing-same NotShown tests _ _ shows
+
+  -- a moment's numbers are small
+  pub moment-few : (m : Moment) → momentOf t x k ≡ In m → (m .place .start ≤ 4000000) × ((m .place .second ≤ 3000000) × (m .micro ≤ 999999))
+  unfolding momentOf
+  moment-few m e =
+      let w = was-passed Nowhere tests (In (momentAt t sc x)) (In m) (λ why q. let z : _≡_ {A = ℕ} 0 1 = cc in omega arith) e in
+      let f = place-few o (steps t (acc (w .0)) sc) (axisCount sc x / 1000000) (covered (w .0)) in
+      subst (λ (v : Moment). (v .place .start ≤ 4000000) × ((v .place .second ≤ 3000000) × (v .micro ≤ 999999))) (same (w .1)) (omega arith)
+    where
+      same : {v : Moment} → In v ≡ In m → v ≡ m
+      same q = cc
