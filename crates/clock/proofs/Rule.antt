@@ -10,23 +10,18 @@ use Rattle.laws.proofs.Difference.{up, down}
 use Rattle.answer.specs.declared.Refusal.the-variants.{Range as RANGE}
 use Rattle.months.specs.Months.{monthLength, daysBefore}
 use Rattle.months.proofs.Laws.{days-next, length-least}
-use Rattle.stamp.specs.declared.Label.{Label}
-use Rattle.stamp.specs.Labels.{Offsets, label, monthOf, lastMinute, inLastMinute, minuteIn, minuteLength, secondOf}
-use Rattle.stamp.proofs.Turn.{Steps, turn, minute-range}
-use Rattle.stamp.proofs.Place.{Begun}
-use Rattle.stamp.proofs.Exists.{Exists}
-use Rattle.stamp.proofs.Order.{Stands}
+use Rattle.laws.proofs.Offsets.{Steps}
+use Rattle.labels.specs.declared.Label.{Label}
+use Rattle.labels.specs.Labels.{Offsets, label, monthOf, lastMinute, inLastMinute, minuteIn, minuteLength}
+use Rattle.labels.specs.Seconds.{secondOf}
+use Rattle.labels.proofs.Turn.{turn, minute-range}
+use Rattle.labels.proofs.Falls.{Begun}
+use Rattle.labels.proofs.Order.{Stands}
+use Rattle.labels.proofs.Labelled.{At}
 use Rattle.clock.specs.declared.TickAnswer.{TickAnswer}
 use Rattle.clock.specs.declared.TickAnswer.the-variants.{Next, Refused}
 use Rattle.clock.specs.Clock.{next}
 use Rattle.laws.proofs.Cases.{pick<}
-
--- the label exists, in the years that have labels, and stands for second s of TAI from year 0
-pub record At (o : Offsets) (l : Label) (s : ℕ) : Type 0 where
-  pub since-1972 : 1972 ≤ l .year
-  pub until-9999 : l .year ≤ 9999
-  pub exists : Exists o l
-  pub stands : Stands o l s
 
 -- what is shown at second s: its label, or RANGE once year 10000 has begun
 abbrev pub Right : Offsets → ℕ → TickAnswer → Type 0
@@ -55,7 +50,7 @@ module _ (o : Offsets) (l : Label) where
   -- any other has 60 seconds
   other-minute : AtEnd l ⊎ (minuteLength o l ≡ 60)
   unfolding minuteIn
-  other-minute = by-test (inLastMinute l) (λ e. inl (search (and-l, and-r, eqb-true))) (λ e. inr (rw e))
+  other-minute = by-test (inLastMinute (monthLength (monthOf l)) l) (λ e. inl (search (and-l, and-r, eqb-true))) (λ e. inr (rw e))
 
 module _ (o : Offsets) (st : Steps o) where
   -- a minute's first second exists

@@ -6,41 +6,33 @@ use mathlib.Core.Bool.{true}
 use mathlib.Core.List.{[], _∷_}
 use Prim.Native.Nat.{ℕ, zero, suc, _+_, _-_, _*_, _≤_, _<_}
 use native.Mathlib.Omega.{arith}
-use lib.IntN.{pos, negℤ}
-use lib.Dec.{leb}
-use lib.Signed.{leZ}
-use Rattle.laws.proofs.Cases.{and-l, join}
-use Rattle.laws.proofs.Difference.{up, down, sum-is, eq-from, leZ-true}
-use Rattle.answer.specs.declared.Refusal.the-variants.{Ask as ASK, Table as TABLE, Range as RANGE}
-use Rattle.answer.proofs.Orders.{none-refused}
+use lib.IntN.{pos, _+ℤ_}
+use Rattle.laws.proofs.Cases.{join}
+use Rattle.laws.proofs.Difference.{up, down, sum-is, eq-from}
+use Rattle.laws.proofs.Offsets.{Steps}
+use Rattle.answer.specs.declared.Refusal.the-variants.{Table as TABLE, Range as RANGE}
+use Rattle.answer.proofs.Orders.{none-refused, number-some}
 use Rattle.months.specs.Months.{monthLength, daysBefore}
-use Rattle.months.proofs.Laws.{days-next, length-least}
+use Rattle.months.proofs.Laws.{days-1972, days-next, length-least}
 use Rattle.leap.specs.declared.Table.{Table}
 use Rattle.leap.specs.Leap.{accepted, offsetAt}
 use Rattle.leap.proofs.Facts.{Accepted, accepted-to}
-use Rattle.leap.proofs.Moves.{at-first}
-use Rattle.stamp.specs.declared.Scale.the-variants.{Utc}
-use Rattle.stamp.specs.declared.Label.{Label}
-use Rattle.stamp.specs.declared.InstantAnswer.the-variants.{At as InstantAt, Refused as InstantRefused}
-use Rattle.stamp.specs.declared.Stamp.{Stamp}
-use Rattle.stamp.specs.declared.StampAnswer.the-variants.{Stamped}
-use Rattle.stamp.specs.Labels.{Offsets, monthOf, asked, secondOf}
-use Rattle.stamp.specs.Instants.{instantOf, instantAnswer}
-use Rattle.stamp.specs.Stamps.{first as firstReading, last as lastReading, inRange}
-use Rattle.stamp.specs.Promise.{Reads, stamp}
-use Rattle.stamp.proofs.Facts.{year-to}
-use Rattle.stamp.proofs.Turn.{Steps, steps, turn}
-use Rattle.stamp.proofs.Place.{before-later}
-use Rattle.stamp.proofs.Exists.{second-few, second-falls}
-use Rattle.stamp.proofs.Order.{order, order-back}
-use Rattle.stamp.proofs.Ends.{instant-is, first-second, last-second, days-last, days-end}
-use Rattle.stamp.proofs.Admitted.{admitted-from}
-use Rattle.stamp.proofs.Undone.{reads-exists, reads-in-range, undo}
+use Rattle.leap.proofs.Moves.{at-first, steps-by-months}
+use Rattle.labels.specs.declared.Label.{Label}
+use Rattle.labels.specs.Labels.{Offsets, whole, monthOf, labelTests}
+use Rattle.labels.specs.Seconds.{secondOf, axisOf}
+use Rattle.labels.proofs.Turn.{turn}
+use Rattle.labels.proofs.Falls.{before-later}
+use Rattle.labels.proofs.Exists.{second-few, second-falls}
+use Rattle.labels.proofs.Order.{order, order-back}
+use Rattle.labels.proofs.Admitted.{admitted-to, admitted-from}
+use Rattle.labels.proofs.Years.{axis-second, first-second, last-second, days-last, days-end}
+use Rattle.labels.proofs.Labelled.{At, at-covered, one, found as found-second}
 use Rattle.clock.specs.declared.TickAnswer.{TickAnswer}
 use Rattle.clock.specs.declared.TickAnswer.the-variants.{Next, Refused}
-use Rattle.clock.specs.Clock.{whole, startAnswer, tickAnswer, onward, after}
-use Rattle.clock.specs.Promise.{first, last, admits, secondsOn, Ticks, Shown, Ends, Runs, AllRun}
-use Rattle.clock.proofs.Rule.{At, Right, end-minute, begins-minute, ticks}
+use Rattle.clock.specs.Clock.{start, tick, tickResults, onward, after}
+use Rattle.clock.specs.Promise.{first, last, admits, Follows, Shows, ended, Ends, Ticking, AllTick}
+use Rattle.clock.proofs.Rule.{Right, end-minute, begins-minute, ticks}
 
 module _ (t : Table) (ok : accepted t ≡ true) where
   acc : Accepted t
@@ -51,9 +43,9 @@ module _ (t : Table) (ok : accepted t ≡ true) where
 
   st : Steps o
   unfolding o
-  st = steps t acc Utc
+  st = steps-by-months t acc
 
-  -- second n of the clock among the seconds of TAI
+  -- second n of the clock among the seconds of the axis
   tai : ℕ → ℕ
   tai n = 62230291210 + n
 
@@ -69,7 +61,7 @@ module _ (t : Table) (ok : accepted t ≡ true) where
   unfolding tai count
   end-is = omega (arith, days-end, st .low 119999, ap up (st .at-rest), ap down (st .at-rest))
 
-  -- ---- a label at a second, and the conversions
+  -- ---- a label at a second
 
   admitted-at : (l : Label) (s : ℕ) → At o l s → admits t l ≡ true
   unfolding o
@@ -83,53 +75,25 @@ module _ (t : Table) (ok : accepted t ≡ true) where
         on-clock = record { hour-high = e .hour-high; minute-high = e .minute-high; second-most = second-few (offsetAt t) st l e; micro-high = omega arith };
       })
 
-  instant-at : (l : Label) (n : ℕ) → At o l (tai n) → instantOf t Utc (whole l) ≡ secondsOn n
-  unfolding o tai
-  instant-at l n a =
-      eq-from (instantOf t Utc (whole l)) (secondsOn n)
-      (omega (arith, a .stands, instant-is (secondOf l) 0 (offsetAt t (monthOf l)) (pos 0), sum-is (negℤ (pos 883655990000000)) (pos (1000000 * n))))
-
-  shown-at : (l : Label) (n : ℕ) → At o l (tai n) → Shown t n l
-  unfolding instantAnswer
-  shown-at l n a =
-      let e = admitted-at l (tai n) a in
-      let i : instantAnswer t 0 (whole l) ≡ InstantAt (secondsOn n) =
-      none-refused InstantRefused ((leb 0 3, ASK) ∷ (accepted t, TABLE) ∷ []) _ (join refl (join ok refl))
-      ∙ none-refused InstantRefused (asked (offsetAt t) 60 (whole l)) _ e
-      ∙ ap InstantAt (instant-at l n a) in
-      record { is-admitted = e; is-converted = undo t 0 .stamp-back (whole l) (secondsOn n) i; converts-back = i }
-
   in-time : (l : Label) (n : ℕ) → At o l (tai n) → n ≤ count
   unfolding tai
-  in-time l n a =
-      omega (arith, end-is, before-later o st (tai n) (monthOf l + 1) 120000 (omega (arith, a .until-9999, a .exists .month-high)) (second-falls o st l (a .exists) (tai n) (a .stands) .ends))
-
-  -- a second has one label
-  one : (l l′ : Label) (n : ℕ) → At o l (tai n) → At o l′ (tai n) → l ≡ l′
-  one l l′ n a a′ = same (sym (shown-at l n a .is-converted) ∙ shown-at l′ n a′ .is-converted)
-    where
-      same : Stamped (stamp Utc (whole l)) ≡ Stamped (stamp Utc (whole l′)) → l ≡ l′
-      same e =
-          let z : stamp Utc (whole l) ≡ stamp Utc (whole l′) = cc in
-          ap (λ (z : Stamp). z .reading .label) z
+  in-time l n a = omega (arith, end-is, at-covered o st l (tai n) a .ends)
 
   -- each label that exists is at a second of the clock
   found : (l : Label) → admits t l ≡ true → (n : ℕ) × At o l (tai n)
-  unfolding o tai inRange
+  unfolding o tai
   found l e =
-      let x = instantOf t Utc (whole l) in
-      let reads : Reads t Utc (whole l) x = record { is-admitted = e; instant-is = refl } in
-      let years = year-to l (and-l _ _ e) in
-      let exists = reads-exists t acc Utc (whole l) x reads in
-      let r = reads-in-range t acc Utc (whole l) x reads in
-      let h = leZ-true (instantOf t Utc firstReading) x (and-l _ (leZ x (instantOf t Utc lastReading)) r) in
-      let n : ℕ = secondOf l + up (o (monthOf l)) - down (o (monthOf l)) - 62230291210 in
-      (n, omega (arith, h, ten, first-second, instant-is (secondOf (firstReading .label)) 0 (offsetAt t 23664) (pos 0), instant-is (secondOf l) 0 (offsetAt t (monthOf l)) (pos 0)))
+      let a = admitted-to (offsetAt t) 60 (whole l) e in
+      let f = found-second o st l (a .since-1972) (a .until-9999) (a .exists) in
+      let s = f .0 in
+      let v = at-covered o st l s (f .1) in
+      let back : 62230291210 + (s - 62230291210) ≡ s = omega (arith, v .begun, ten, days-1972) in
+      (s - 62230291210, subst (At (offsetAt t) l) (sym back) (f .1))
 
   -- ---- the ticks
 
   starts : after t 0 ≡ Next first
-  unfolding after startAnswer
+  unfolding after start
   starts = none-refused Refused ((accepted t, TABLE) ∷ []) (Next first) (join ok refl)
 
   first-at : At o first (tai 0)
@@ -138,22 +102,19 @@ module _ (t : Table) (ok : accepted t ≡ true) where
       begins-minute o st first (62230291210 + 0) (omega (arith, length-least 23664)) refl (omega (arith, ten, first-second))
 
   onward-right : (n : ℕ) (p : TickAnswer) → Right o (tai n) p → Right o (tai (suc n)) (onward t p)
-  unfolding tickAnswer o tai
+  unfolding tick o tai
   onward-right n (Refused why) r = (r .0, omega (arith, r .1))
   onward-right n (Next l) a =
       let next-second : tai n + 1 ≡ tai (suc n) = omega arith in
-      subst (λ (s : ℕ). Right o s (tickAnswer t l)) next-second
+      subst (λ (s : ℕ). Right o s (tick t l)) next-second
       (subst (Right o (tai n + 1))
-      (sym (none-refused Refused ((accepted t, TABLE) ∷ asked (offsetAt t) 60 (whole l)) _ (join ok (admitted-at l (tai n) a))))
+      (sym (none-refused Refused ((accepted t, TABLE) ∷ labelTests (offsetAt t) 60 (whole l)) _ (join ok (admitted-at l (tai n) a))))
       (ticks o st l (tai n) a))
 
   right : (n : ℕ) → Right o (tai n) (after t n)
   unfolding after
   right zero = subst (Right o (tai 0)) (sym starts) first-at
   right (suc n) = onward-right n (after t n) (right n)
-
-  at : (n : ℕ) (l : Label) → after t n ≡ Next l → At o l (tai n)
-  at n l e = subst (Right o (tai n)) e (right n)
 
   -- a label is shown up to the last second, and RANGE past it
   told : (n : ℕ) → ((n ≤ count) × ((l : Label) × ((after t n ≡ Next l) × At o l (tai n)))) ⊎ ((count < n) × (after t n ≡ Refused RANGE))
@@ -166,7 +127,7 @@ module _ (t : Table) (ok : accepted t ≡ true) where
 
   shows-it : (l : Label) (n : ℕ) → At o l (tai n) → after t n ≡ Next l
   shows-it l n a =
-      ⊎-elim (λ w. w .1 .1 .0 ∙ ap Next (one (w .1 .0) l n (w .1 .1 .1) a)) (λ w. absurd (omega (arith, in-time l n a))) (told n)
+      ⊎-elim (λ w. w .1 .1 .0 ∙ ap Next (one o st (w .1 .0) l (tai n) (w .1 .1 .1) a)) (λ w. absurd (omega (arith, in-time l n a))) (told n)
 
   last-at : At o last (tai count)
   unfolding tai count
@@ -174,29 +135,21 @@ module _ (t : Table) (ok : accepted t ≡ true) where
       let length : monthLength 119999 ≡ 31 = omega (arith, days-next 119999, days-last, days-end) in
       omega (arith, end-minute o last (omega arith), last-second, st .low 119999, turn (o 119999) (o 120000) (st .by-one 119999), ap up (st .at-rest), ap down (st .at-rest))
 
-  ends : Ends t count
-  ends =
-      record {
-        goes-on = λ n h. ⊎-elim (λ w. (w .1 .0, w .1 .1 .0)) (λ w. absurd (omega arith)) (told n);
-        ends-with = shows-it last count last-at;
-        stays-refused = λ n h. ⊎-elim (λ w. absurd (omega arith)) (λ w. w .1) (told n);
-      }
-
   -- ---- one tick
 
-  ticks-on : (l : Label) → admits t l ≡ true → Ticks t l
+  ticks-on : (l : Label) → admits t l ≡ true → ((l′ : Label) × ((tickResults (tick t l) ≡ (0, l′)) × Follows t l l′)) ⊎ ((l ≡ last) × (tickResults (tick t l) ≡ ended))
   unfolding after tai
   ticks-on l e =
       let n = found l e .0 in
       let a = found l e .1 in
-      let tick : after t (suc n) ≡ tickAnswer t l = ap (onward t) (shows-it l n a) in
+      let on : after t (suc n) ≡ tick t l = ap (onward t) (shows-it l n a) in
       ⊎-map
       (λ w.
       let l′ = w .1 .0 in
       let b = w .1 .1 .1 in (
         l′,
         (
-          sym tick ∙ w .1 .1 .0,
+          ap tickResults (sym on ∙ w .1 .1 .0),
           record {
             is-admitted = admitted-at l′ (tai (suc n)) b;
             is-later = order-back o st l l′ (a .exists) (b .exists) (tai n) (tai (suc n)) (a .stands) (b .stands) (omega arith);
@@ -209,25 +162,53 @@ module _ (t : Table) (ok : accepted t ≡ true) where
       ))
       (λ w.
       let same : n ≡ count = omega (arith, in-time l n a) in
-      (one l last count (subst (λ (k : ℕ). At o l (tai k)) same a) last-at, sym tick ∙ w .1))
+      (one o st l last (tai count) (subst (λ (k : ℕ). At o l (tai k)) same a) last-at, ap tickResults (sym on ∙ w .1)))
       (told (suc n))
 
-  runs : Runs t
-  unfolding tai
-  runs =
+  -- ---- all ticks, in the scope's numbers
+
+  -- number 0 is no refusal's
+  next : (a : TickAnswer) (l : Label) → tickResults a ≡ (0, l) → a ≡ Next l
+  next (Next k) l e = ap (λ v. Next (v .1)) e
+  next (Refused why) l e = absurd (number-some why (ap (λ v. v .0) e))
+
+  at : (n : ℕ) (l : Label) → Shows t n l → At o l (tai n)
+  at n l e = subst (Right o (tai n)) (next (after t n) l e) (right n)
+
+  seconds : (n : ℕ) (l : Label) → Shows t n l → axisOf (offsetAt t) (whole l) ≡ axisOf (offsetAt t) (whole first) +ℤ pos (1000000 * n)
+  unfolding o tai
+  seconds n l e =
+      axis-second (offsetAt t) (whole l) (62230291210 + n) (at n l e .stands)
+      ∙ sum
+      ∙ ap (λ z. z +ℤ pos (1000000 * n)) (sym (axis-second (offsetAt t) (whole first) (62230291210 + 0) (first-at .stands)))
+    where
+      sum : pos (1000000 * (62230291210 + n) + 0) ≡ pos (1000000 * (62230291210 + 0) + 0) +ℤ pos (1000000 * n)
+      sum = ap pos (omega arith)
+
+  ends : Ends t count
+  ends =
       record {
-        starts = starts;
-        ticks = ticks-on;
-        shows = λ n l e. shown-at l n (at n l e);
-        rises = λ j k l l′ h e e′.
+        goes-on = λ n h. ⊎-elim (λ w. (w .1 .0, ap tickResults (w .1 .1 .0))) (λ w. absurd (omega arith)) (told n);
+        ends-with = ap tickResults (shows-it last count last-at);
+        stays-refused = λ n h. ⊎-elim (λ w. absurd (omega arith)) (λ w. ap tickResults (w .1)) (told n);
+      }
+
+  ticking : Ticking t
+  unfolding tai
+  ticking =
+      record {
+        starts-in-1972 = ap tickResults starts;
+        ticks-to-the-next = ticks-on;
+        shows-every-second = λ l e. let w = found l e in (w .0, ap tickResults (shows-it l (w .0) (w .1)));
+        shows-it-once = λ j k l e e′. omega (arith, at j l e .stands, at k l e′ .stands);
+        in-calendar-order = λ j k l l′ h e e′.
             let a = at j l e in
             let a′ = at k l′ e′ in
             order-back o st l l′ (a .exists) (a′ .exists) (tai j) (tai k) (a .stands) (a′ .stands) (omega arith);
-        reaches = λ l e.
-            let w = found l e in
-            (w .0, (shows-it l (w .0) (w .1), λ k q. omega (arith, at k l q .stands, w .1 .stands)));
+        shows-no-other = λ n l e. admitted-at l (tai n) (at n l e);
+        keeps-the-seconds = seconds;
         ends = (count, ends);
       }
 
-pub all-run : AllRun
-all-run t ok = runs t ok
+pub all-tick : AllTick
+all-tick t ok = ticking t ok

@@ -9,9 +9,8 @@ use Rattle.answer.specs.Refusals.{number, refusing}
 use Rattle.months.specs.Months.{monthLength}
 use Rattle.leap.specs.declared.Table.{Table}
 use Rattle.leap.specs.Leap.{accepted, offsetAt}
-use Rattle.stamp.specs.declared.Label.{Label}
-use Rattle.stamp.specs.declared.Reading.{Reading}
-use Rattle.stamp.specs.Labels.{label, noLabel, monthOf, minuteLength, asked}
+use Rattle.labels.specs.declared.Label.{Label}
+use Rattle.labels.specs.Labels.{label, whole, noLabel, monthOf, minuteLength, labelTests}
 use Rattle.clock.specs.declared.TickAnswer.{TickAnswer}
 use Rattle.clock.specs.declared.TickAnswer.the-variants.{Next, Refused}
 
@@ -34,21 +33,17 @@ next days seconds l =
 
 -- ---- the calls
 
--- a label is judged as the UTC reading of its whole second
-abbrev pub whole : Label → Reading
-whole l = record { label = l; micro = 0 }
-
--- the tests of a UTC reading, 3, 4, 5 and 6 in this order, and past them the rule
-abbrev pub labelAnswer : Table → Label → TickAnswer
-labelAnswer t l = refusing Refused (asked (offsetAt t) 60 (whole l)) (next (monthLength (monthOf l)) (minuteLength (offsetAt t) l) l)
+-- a label is judged as the UTC reading of its whole second, by the tests 3, 4, 5 and 6 in this order, and past them by the rule
+abbrev pub tickIn : Table → Label → TickAnswer
+tickIn t l = refusing Refused (labelTests (offsetAt t) 60 (whole l)) (next (monthLength (monthOf l)) (minuteLength (offsetAt t) l) l)
 
 -- `tick`
-unfoldable pub tickAnswer : Table → Label → TickAnswer
-tickAnswer t l = refusing Refused ((accepted t, TABLE) ∷ []) (labelAnswer t l)
+unfoldable pub tick : Table → Label → TickAnswer
+tick t l = refusing Refused ((accepted t, TABLE) ∷ []) (tickIn t l)
 
 -- `start`
-unfoldable pub startAnswer : Table → TickAnswer
-startAnswer t = refusing Refused ((accepted t, TABLE) ∷ []) (shown 1972 1 1 0 0 0)
+unfoldable pub start : Table → TickAnswer
+start t = refusing Refused ((accepted t, TABLE) ∷ []) (shown 1972 1 1 0 0 0)
 
 -- an answer in the scope's numbers: that of the refusal, 0 on success, and the label, all zero on a refusal
 abbrev pub tickResults : TickAnswer → ℕ × Label
@@ -59,10 +54,10 @@ tickResults (Refused why) = (number why, noLabel)
 
 -- a tick of what is shown; a refusal stays
 abbrev pub onward : Table → TickAnswer → TickAnswer
-onward t (Next l) = tickAnswer t l
+onward t (Next l) = tick t l
 onward t (Refused why) = Refused why
 
 -- what the clock shows after n ticks
 unfoldable pub after : Table → ℕ → TickAnswer
-after t zero = startAnswer t
+after t zero = start t
 after t (suc n) = onward t (after t n)

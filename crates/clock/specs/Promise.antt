@@ -1,23 +1,17 @@
--- Demand 3: what is promised of the clock under every accepted table, of each tick and over all ticks.
+-- Demand 3, of the clock by itself: what is promised of each tick and over all ticks, under every accepted table. That its labels are those of the
+-- conversions is said where both are known.
 -- Assumes nothing.
 use mathlib.Core.Path.{_≡_}
 use mathlib.Core.Logic.{_⊎_}
 use mathlib.Core.Bool.{Bool, true}
 use Prim.Native.Nat.{ℕ, _*_, _≤_, _<_}
-use lib.IntN.{ℤ, pos, negℤ, _+ℤ_}
-use Rattle.answer.specs.declared.Refusal.the-variants.{Range as RANGE}
+use lib.IntN.{pos, _+ℤ_}
 use Rattle.leap.specs.declared.Table.{Table}
 use Rattle.leap.specs.Leap.{accepted, offsetAt}
-use Rattle.stamp.specs.declared.Scale.the-variants.{Utc}
-use Rattle.stamp.specs.declared.Label.{Label}
-use Rattle.stamp.specs.declared.InstantAnswer.the-variants.{At}
-use Rattle.stamp.specs.declared.StampAnswer.the-variants.{Stamped}
-use Rattle.stamp.specs.Labels.{label, admitted, Before}
-use Rattle.stamp.specs.Instants.{instantAnswer}
-use Rattle.stamp.specs.Stamps.{stampAnswer}
-use Rattle.stamp.specs.Promise.{stamp}
-use Rattle.clock.specs.declared.TickAnswer.the-variants.{Next, Refused}
-use Rattle.clock.specs.Clock.{whole, tickAnswer, after}
+use Rattle.labels.specs.declared.Label.{Label}
+use Rattle.labels.specs.Labels.{label, whole, noLabel, admitted, Before}
+use Rattle.labels.specs.Seconds.{axisOf}
+use Rattle.clock.specs.Clock.{tick, tickResults, after}
 
 abbrev pub first : Label
 first = label 1972 1 1 0 0 0
@@ -29,45 +23,40 @@ last = label 9999 12 31 23 59 59
 abbrev pub admits : Table → Label → Bool
 admits t l = admitted (offsetAt t) 60 (whole l)
 
--- ---- one tick
-
 -- l′ is the next admitted label after l
 pub record Follows (t : Table) (l l′ : Label) : Type 0 where
   pub is-admitted : admits t l′ ≡ true
   pub is-later : Before l l′
   pub none-between : (k : Label) → admits t k ≡ true → Before l k → Before k l′ → ⊥
 
--- from an admitted label a tick gives the next admitted one; from the last second of 9999, RANGE
-abbrev pub Ticks : Table → Label → Type 0
-Ticks t l = ((l′ : Label) × ((tickAnswer t l ≡ Next l′) × Follows t l l′)) ⊎ ((l ≡ last) × (tickAnswer t l ≡ Refused RANGE))
+-- the clock shows the label l after n ticks
+abbrev pub Shows : Table → ℕ → Label → Type 0
+Shows t n l = tickResults (after t n) ≡ (0, l)
 
--- ---- all ticks
-
--- the instant n seconds after 1972-01-01 00:00:00 UTC
-abbrev pub secondsOn : ℕ → ℤ
-secondsOn n = negℤ (pos 883655990000000) +ℤ pos (1000000 * n)
-
--- l is the label for n ticks: it exists, the direct conversion gives it for the instant n seconds after the start, and it converts back to that instant
-pub record Shown (t : Table) (n : ℕ) (l : Label) : Type 0 where
-  pub is-admitted : admits t l ≡ true
-  pub is-converted : stampAnswer t (secondsOn n) 0 ≡ Stamped (stamp Utc (whole l))
-  pub converts-back : instantAnswer t 0 (whole l) ≡ At (secondsOn n)
+-- RANGE, 7, with no label
+abbrev pub ended : ℕ × Label
+ended = (7, noLabel)
 
 -- the clock goes on for `count` ticks to the last second of 9999; past it RANGE comes and stays
 pub record Ends (t : Table) (count : ℕ) : Type 0 where
-  pub goes-on : (n : ℕ) → n ≤ count → (l : Label) × (after t n ≡ Next l)
-  pub ends-with : after t count ≡ Next last
-  pub stays-refused : (n : ℕ) → count < n → after t n ≡ Refused RANGE
+  pub goes-on : (n : ℕ) → n ≤ count → (l : Label) × Shows t n l
+  pub ends-with : Shows t count last
+  pub stays-refused : (n : ℕ) → count < n → tickResults (after t n) ≡ ended
 
-pub record Runs (t : Table) : Type 0 where
-  pub starts : after t 0 ≡ Next first
-  pub ticks : (l : Label) → admits t l ≡ true → Ticks t l
-  pub shows : (n : ℕ) (l : Label) → after t n ≡ Next l → Shown t n l
-  -- in the order of the calendar
-  pub rises : (j k : ℕ) (l l′ : Label) → j < k → after t j ≡ Next l → after t k ≡ Next l′ → Before l l′
-  -- each admitted label, for exactly one n
-  pub reaches : (l : Label) → admits t l ≡ true → (n : ℕ) × ((after t n ≡ Next l) × ((k : ℕ) → after t k ≡ Next l → k ≡ n))
+-- under one table
+pub record Ticking (t : Table) : Type 0 where
+  pub starts-in-1972 : Shows t 0 first
+  -- a tick of an admitted label gives the next admitted one, and RANGE after the last second of 9999
+  pub ticks-to-the-next : (l : Label) → admits t l ≡ true → ((l′ : Label) × ((tickResults (tick t l) ≡ (0, l′)) × Follows t l l′)) ⊎ ((l ≡ last) × (tickResults (tick t l) ≡ ended))
+  -- every admitted second once
+  pub shows-every-second : (l : Label) → admits t l ≡ true → (n : ℕ) × Shows t n l
+  pub shows-it-once : (j k : ℕ) (l : Label) → Shows t j l → Shows t k l → j ≡ k
+  -- in calendar order, and no other
+  pub in-calendar-order : (j k : ℕ) (l l′ : Label) → j < k → Shows t j l → Shows t k l′ → Before l l′
+  pub shows-no-other : (n : ℕ) (l : Label) → Shows t n l → admits t l ≡ true
+  -- n seconds after the first label, on UTC's axis
+  pub keeps-the-seconds : (n : ℕ) (l : Label) → Shows t n l → axisOf (offsetAt t) (whole l) ≡ axisOf (offsetAt t) (whole first) +ℤ pos (1000000 * n)
   pub ends : (count : ℕ) × Ends t count
 
-abbrev pub AllRun : Type 0
-AllRun = (t : Table) → accepted t ≡ true → Runs t
+abbrev pub AllTick : Type 0
+AllTick = (t : Table) → accepted t ≡ true → Ticking t

@@ -1,15 +1,22 @@
 // The plain clock: a UTC label of whole seconds, its start and its tick.
-// The tick is the rule by cases and goes through no instant; that it keeps step with the instants is `Runs` of specs/.
+// The tick is the rule by cases and goes through no instant: this crate does not know the conversions, with which the promises join it.
 ghost use mathlib.Core.Path.{_≡_};
-ghost use Prim.Native.Nat.{_≤_, _<_};
+ghost use mathlib.Core.List.{[], _∷_};
+ghost use Prim.Native.Nat.{_+_, _≤_};
+ghost use Rattle.answer.specs.declared.Refusal.the-variants.{NoSecond as NOSECOND};
+ghost use Rattle.answer.specs.Refusals.{refusing};
 ghost use Rattle.months.specs.Months.{monthLength};
 ghost use Rattle.leap.specs.Leap.{tabled, offsetAt};
-ghost use Rattle.stamp.specs.Labels.{monthOf, minuteLength};
-ghost use Rattle.clock.specs.Clock.{shown, next, labelAnswer, startAnswer, tickAnswer};
+ghost use Rattle.labels.specs.declared.Judged.the-variants.{Real};
+ghost use Rattle.labels.specs.Labels.{whole, monthOf, minuteIn, minuteLength, judged, hasSecond};
+ghost use Rattle.clock.specs.Clock.{shown, next, tickIn, start, tick};
 use answer::Refusal;
+use labels::Judged;
+use labels::Label;
+use labels::Month;
+use labels::Reading;
+use leap::OffsetPair;
 use leap::Table;
-use stamp::Label;
-use stamp::Reading;
 
 pub enum TickAnswer {
     Next(Label),
@@ -29,30 +36,20 @@ fn shown(year: u32, month: u32, day: u32, hour: u32, minute: u32, second: u32) -
     })
 }
 
-// The seconds of the label's minute; only the last minute of a month looks at the table.
-fn minute_length<'a>(
+// The offsets by which the label's minute is long; only the last minute of a month asks the table.
+fn near_end<'a>(
     count: usize,
     months: &'a [u32; 64],
     offsets: &'a [i32; 64],
+    month: Month,
     l: Label,
-    m: u32,
-    days: u32,
-) -> u32
-    requires { ⌜ (m ≡ monthOf l) × ((m < 120000) × (days ≡ monthLength m)) ⌝ }
-    ensures { λ r. ⌜ r ≡ minuteLength (offsetAt (tabled count (now (months .entry)) (now (offsets .entry)))) l ⌝ }
+) -> OffsetPair
+    ensures { λ r. ⌜ minuteIn (month .days) (r .here) (r .next) l ≡ minuteIn (month .days) (offsetAt (tabled count (now (months .entry)) (now (offsets .entry))) (month .number)) (offsetAt (tabled count (now (months .entry)) (now (offsets .entry))) (month .number + 1)) l ⌝ }
 {
-    if l.day != days {
-        return 60;
+    if labels::in_last_minute(month.days, l) {
+        return leap::near(count, months, offsets, month.number);
     }
-    if l.hour != 23 {
-        return 60;
-    }
-    if l.minute != 59 {
-        return 60;
-    }
-    let here = leap::offset_at(count, months, offsets, m);
-    let next = leap::offset_at(count, months, offsets, m + 1);
-    stamp::last_minute(here, next)
+    OffsetPair { here: 0, next: 0 }
 }
 
 // The rule: `days` is the length of the label's month, `seconds` that of its minute.
@@ -87,36 +84,38 @@ fn next(days: u32, seconds: u32, l: Label) -> TickAnswer
     TickAnswer::Refused(Refusal::Range)
 }
 
-// The next label, or the first thing that is wrong with this one, under a table that was judged.
-fn tick_in<'a>(count: usize, months: &'a [u32; 64], offsets: &'a [i32; 64], l: Label) -> TickAnswer
-    ensures { λ r. ⌜ r ≡ labelAnswer (tabled count (now (months .entry)) (now (offsets .entry))) l ⌝ }
+// The next label after one whose fields were judged, if UTC has its second.
+fn tick_judged<'a>(
+    count: usize,
+    months: &'a [u32; 64],
+    offsets: &'a [i32; 64],
+    l: Label,
+    month: Month,
+) -> TickAnswer
+    requires { ⌜ judged 60 (whole l) ≡ Real month ⌝ }
+    ensures { λ r. ⌜ r ≡ refusing TickAnswer.Refused ((hasSecond (offsetAt (tabled count (now (months .entry)) (now (offsets .entry)))) l, NOSECOND) ∷ []) (next (monthLength (monthOf l)) (minuteLength (offsetAt (tabled count (now (months .entry)) (now (offsets .entry)))) l) l) ⌝ }
 {
-    if !stamp::real_year(l) {
-        return TickAnswer::Refused(Refusal::Year);
-    }
-    if !stamp::real_month(l) {
-        return TickAnswer::Refused(Refusal::Date);
-    }
-    let year = l.year;
-    let month = l.month;
-    let m = 12 * year + (month - 1);
-    let days = calendar::month_length(m);
-    if !stamp::day_in(days, l) {
-        return TickAnswer::Refused(Refusal::Date);
-    }
-    let whole = Reading { label: l, micro: 0 };
-    if !stamp::real_clock(60, whole) {
-        return TickAnswer::Refused(Refusal::Clock);
-    }
-    let seconds = minute_length(count, months, offsets, l, m, days);
+    let near = near_end(count, months, offsets, month, l);
+    let seconds = labels::minute_length(month.days, near.here, near.next, l);
     if seconds <= l.second {
         return TickAnswer::Refused(Refusal::NoSecond);
     }
-    next(days, seconds, l)
+    next(month.days, seconds, l)
+}
+
+// The next label, or the first thing that is wrong with this one, under a table that was judged.
+fn tick_in<'a>(count: usize, months: &'a [u32; 64], offsets: &'a [i32; 64], l: Label) -> TickAnswer
+    ensures { λ r. ⌜ r ≡ tickIn (tabled count (now (months .entry)) (now (offsets .entry))) l ⌝ }
+{
+    let whole = Reading { label: l, micro: 0 };
+    match labels::judge(60, whole) {
+        Judged::Real(month) => tick_judged(count, months, offsets, l, month),
+        Judged::Refused(why) => TickAnswer::Refused(why),
+    }
 }
 
 pub fn start(t: Table) -> TickAnswer
-    ensures { λ r. ⌜ r ≡ startAnswer t ⌝ }
+    ensures { λ r. ⌜ r ≡ start t ⌝ }
 {
     if !leap::is_accepted_in(t.count, &t.months, &t.offsets) {
         return TickAnswer::Refused(Refusal::Table);
@@ -125,7 +124,7 @@ pub fn start(t: Table) -> TickAnswer
 }
 
 pub fn tick(t: Table, l: Label) -> TickAnswer
-    ensures { λ r. ⌜ r ≡ tickAnswer t l ⌝ }
+    ensures { λ r. ⌜ r ≡ tick t l ⌝ }
 {
     if !leap::is_accepted_in(t.count, &t.months, &t.offsets) {
         return TickAnswer::Refused(Refusal::Table);

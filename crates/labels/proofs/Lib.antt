@@ -8,3 +8,4 @@ pub mod Admitted
 pub mod Years
 pub mod Labelled
 pub mod Uniform
+pub mod Judging

@@ -1,8 +1,8 @@
--- What follows a first question, by its answer: the scale that `asked` gave, or the month that `judge` gave, or their refusal.
+-- What follows the first question, by its answer: the scale that `asked` gave, or its refusal.
 -- Assumes nothing.
 use mathlib.Core.Path.{_≡_}
 use mathlib.Core.Bool.{true}
-use Prim.Native.Nat.{ℕ, _≤_}
+use Prim.Native.Nat.{ℕ}
 use native.Mathlib.Omega.{arith}
 use Rattle.laws.proofs.Cases.{and-l, and-r}
 use Rattle.answer.specs.declared.Refusal.{Refusal}
@@ -10,13 +10,6 @@ use Rattle.answer.specs.Refusals.{refusing}
 use Rattle.answer.proofs.Orders.{was-passed, refusing-map}
 use Rattle.leap.specs.declared.Table.{Table}
 use Rattle.leap.specs.Leap.{accepted}
-use Rattle.months.specs.Months.{monthLength}
-use Rattle.labels.specs.declared.Reading.{Reading}
-use Rattle.labels.specs.declared.Month.{Month}
-use Rattle.labels.specs.declared.Judged.{Judged}
-use Rattle.labels.specs.declared.Judged.the-variants.{Real, Refused as NotReal}
-use Rattle.labels.specs.Labels.{monthOf, fieldTests, judged, realYear, realMonth, realDay, realClock}
-use Rattle.labels.proofs.Facts.{year-to, month-to, day-to, OnClock, clock-to}
 use Rattle.stamp.specs.declared.Scale.{Scale}
 use Rattle.stamp.specs.declared.ScaleAnswer.{ScaleAnswer}
 use Rattle.stamp.specs.declared.ScaleAnswer.the-variants.{On, Refused as NoScale}
@@ -39,37 +32,3 @@ module _ (t : Table) (k : ℕ) where
   asked-accepted s e =
       let p = was-passed NoScale (scaleTests t k) _ (On s) (λ why q. let z : _≡_ {A = ℕ} 0 1 = cc in omega arith) e .0 in
       search (and-l, and-r)
-
--- ---- the month
-
-abbrev pub onMonth : {A : Type 0} → (Refusal → A) → (Month → A) → Judged → A
-onMonth refuse next (Real m) = next m
-onMonth refuse next (NotReal why) = refuse why
-
-module _ (most : ℕ) (r : Reading) where
-  abbrev monthIs : Month
-  monthIs = record { number = monthOf (r .label); days = monthLength (monthOf (r .label)) }
-
-  pub then-judged : {A : Type 0} (refuse : Refusal → A) (next : Month → A) {v : Judged} → judged most r ≡ v → onMonth refuse next v ≡ refusing refuse (fieldTests most r) (next monthIs)
-  unfolding judged
-  then-judged refuse next e = rw (← e) (refusing-map (onMonth refuse next) NotReal (fieldTests most r) (Real monthIs))
-
-  -- what a month that was given says of the reading
-  pub record Fields (m : Month) : Type 0 where
-    pub month-is : monthIs ≡ m
-    pub years : (1972 ≤ r .label .year) × (r .label .year ≤ 9999)
-    pub months : (1 ≤ r .label .month) × (r .label .month ≤ 12)
-    pub days : (1 ≤ r .label .day) × (r .label .day ≤ monthLength (monthOf (r .label)))
-    pub clock : OnClock most r
-
-  pub judged-fields : (m : Month) → judged most r ≡ Real m → Fields m
-  unfolding judged
-  judged-fields m e =
-      let w = was-passed NotReal (fieldTests most r) (Real monthIs) (Real m) (λ why q. let z : _≡_ {A = ℕ} 0 1 = cc in omega arith) e in
-      let p = w .0 in
-      let q = w .1 in
-      let y : realYear (r .label) ≡ true = search (and-l) in
-      let n : realMonth (r .label) ≡ true = search (and-l, and-r) in
-      let d : realDay (r .label) ≡ true = search (and-l, and-r) in
-      let c : realClock most r ≡ true = search (and-l, and-r) in
-      record { month-is = cc; years = year-to _ y; months = month-to _ n; days = day-to _ d; clock = clock-to _ _ c }

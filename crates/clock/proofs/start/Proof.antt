@@ -3,12 +3,12 @@
 use borrow.Author.Needs.{needs}
 use Rattle.laws.proofs.Branches.{fails, holds}
 use Rattle.answer.proofs.Orders.{refused, passed}
-use Rattle.clock.specs.Clock.{startAnswer}
+use Rattle.clock.specs.Clock.{start}
 use Rattle.clock.proofs.start.Statement.{statement}
 use Rattle.clock.proofs.start.Tie as tie
 
 pub start-spec : {M : Type 1} → statement M
-unfolding startAnswer
+unfolding start
 start-spec =
     tie.close
     (tie.spec

@@ -3,12 +3,12 @@
 use borrow.Author.Needs.{needs}
 use Rattle.laws.proofs.Branches.{fails, holds}
 use Rattle.answer.proofs.Orders.{refused, passed}
-use Rattle.clock.specs.Clock.{tickAnswer}
+use Rattle.clock.specs.Clock.{tick}
 use Rattle.clock.proofs.tick.Statement.{statement}
 use Rattle.clock.proofs.tick.Tie as tie
 
 pub tick-spec : {M : Type 1} → statement M
-unfolding tickAnswer
+unfolding tick
 tick-spec =
     tie.close
     (tie.spec

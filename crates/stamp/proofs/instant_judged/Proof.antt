@@ -21,7 +21,7 @@ use Rattle.stamp.specs.declared.InstantAnswer.the-variants.{At}
 use Rattle.stamp.specs.Scales.{offsetsOf, mostSecond, toInstant}
 use Rattle.stamp.specs.Stamps.{instantFor}
 use Rattle.stamp.proofs.Scales.{most-sixty}
-use Rattle.stamp.proofs.First.{Fields, judged-fields}
+use Rattle.labels.proofs.Judging.{Fields, judged-fields}
 use Rattle.stamp.proofs.instant_judged.Statement.{statement}
 use Rattle.stamp.proofs.instant_judged.Tie as tie
 
