@@ -1,10 +1,11 @@
-/* Counts one call of `months::days_before`, the calendar's read, and ends with 1 where a call takes over LIMIT instructions, with 2 where an
-   answer is wrong and with 3 where nothing counts here. It is the code that is shipped: the function is none of the interface, so bench/run links
-   a copy of the archive in which its symbol has a name that C can call. Each call is counted by itself, from its first instruction to its
-   return with all that it calls; what surrounds it is counted with a function that only returns, and taken off. */
+/* Counts one call of `months::days_before`, the calendar's read. It is the code that is shipped: the function is none of the interface, so
+   bench/run links a copy of the archive in which its symbol has a name that C can call. Each call is counted by itself, from its first
+   instruction to its return with all that it calls; what surrounds it is counted around a function that only returns, and taken off. */
 #include "frame.h"
 
 enum { LIMIT = 70, MONTHS = 120000 };
+/* the ends that bench/run tells apart */
+enum { WITHIN = 0, OVER = 10, WRONG = 11, NO_COUNTER = 12 };
 
 uint64_t months_days_before(uint32_t month);
 uint64_t only_return(uint32_t month);
@@ -27,15 +28,15 @@ int main(void)
 {
     open_counters();
     if (!counts().n[INSTRUCTIONS])
-        return 3;
+        return NO_COUNTER;
     uint64_t most = 0, surroundings = around(only_return, 0) - 1;
     for (uint32_t m = 0; m < MONTHS; m++) {
         uint64_t took = around(months_days_before, m) - surroundings;
         most = took > most ? took : most;
         /* a cycle later, since the frame's own arithmetic wants years past 0 */
         if (sink != days_from_2000((int)(m / 12) + 400, (int)(m % 12) + 1, 1) + 730485 - 146097)
-            return 2;
+            return WRONG;
     }
     printf("Mundreff\tmonths::days_before\tat most %llu instructions a call, over the months of the years 0 to 9999; %d are allowed\n", (unsigned long long)most, LIMIT);
-    return most > LIMIT;
+    return most > LIMIT ? OVER : WITHIN;
 }
