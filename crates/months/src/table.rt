@@ -5060,12 +5060,14 @@ pub(crate) const DAYS_BEFORE: [[[u32; 48]; 4]; 25] = [
     ],
 ];
 
+// Month k of the cycle out of its row.
 fn in_row(row: [u32; 48], k: usize) -> u32
     ensures { λ r. ⌜ r ≡ getD row (k % 48) 0 ⌝ }
 {
     row[k % 48]
 }
 
+// Month k out of its group of rows.
 fn in_group(group: [[u32; 48]; 4], k: usize) -> u32
     ensures { λ r. ⌜ r ≡ getD (getD group (k / 48 % 4) []) (k % 48) 0 ⌝ }
 {
@@ -5077,6 +5079,7 @@ fn in_group(group: [[u32; 48]; 4], k: usize) -> u32
     }
 }
 
+// Month k out of the whole table.
 pub(crate) fn entry(table: [[[u32; 48]; 4]; 25], k: usize) -> u32
     requires { ⌜ k < 4800 ⌝ }
     ensures { λ r. ⌜ r ≡ entryOf table k ⌝ }
