@@ -11,11 +11,14 @@ def read(path):
         for line in lines:
             peer, call, *rest = line.rstrip("\n").split("\t")
             if len(rest) == 1:
-                notes.append(f"{peer}, {call}: {rest[0]}.")
+                note = f"{peer}, {call}: {rest[0]}."
+                notes += [] if note in notes else [note]
                 continue
             if peer not in peers:
                 peers.append(peer)
-            rows.setdefault(call, {})[peer] = [float(x) for x in rest]
+            # two runs tell of a call where one takes its time and another counts it
+            one = rows.setdefault(call, {}).get(peer, [0.0] * len(rest))
+            rows[call][peer] = [float(x) or known for x, known in zip(rest, one)]
     return rows, peers, notes
 
 

@@ -1,3 +1,3 @@
 pub mod Rule
 pub mod Laws
-pub mod Split
+pub mod Rows

@@ -25,3 +25,7 @@ monthLength m = getD (lengths (leapYear (m / 12))) (m % 12) 0
 unfoldable pub daysBefore : ℕ → ℕ
 daysBefore zero = 0
 daysBefore (suc m) = daysBefore m + monthLength m
+
+-- entry k of a table of months that stands in groups of four rows, each of four years
+unfoldable pub entryOf : List (List (List ℕ)) → ℕ → ℕ
+entryOf t k = getD (getD (getD t (k / 192) []) (k / 48 % 4) []) (k % 48) 0
