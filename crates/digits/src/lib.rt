@@ -169,31 +169,31 @@ pub fn digits(n: u32) -> [u8; 6]
 }
 
 // All of its digits, behind one byte that is free for a sign.
-fn all_places(n: u64) -> [u8; 21]
-    ensures { λ r. ⌜ r ≡ 0 ∷ digitsOf 20 n ⌝ }
+fn all_places(size: u64) -> [u8; 21]
+    ensures { λ r. ⌜ r ≡ 0 ∷ digitsOf 20 size ⌝ }
 {
     [
         0,
-        b'0' + (n / 10000000000000000000 % 10) as u8,
-        b'0' + (n / 1000000000000000000 % 10) as u8,
-        b'0' + (n / 100000000000000000 % 10) as u8,
-        b'0' + (n / 10000000000000000 % 10) as u8,
-        b'0' + (n / 1000000000000000 % 10) as u8,
-        b'0' + (n / 100000000000000 % 10) as u8,
-        b'0' + (n / 10000000000000 % 10) as u8,
-        b'0' + (n / 1000000000000 % 10) as u8,
-        b'0' + (n / 100000000000 % 10) as u8,
-        b'0' + (n / 10000000000 % 10) as u8,
-        b'0' + (n / 1000000000 % 10) as u8,
-        b'0' + (n / 100000000 % 10) as u8,
-        b'0' + (n / 10000000 % 10) as u8,
-        b'0' + (n / 1000000 % 10) as u8,
-        b'0' + (n / 100000 % 10) as u8,
-        b'0' + (n / 10000 % 10) as u8,
-        b'0' + (n / 1000 % 10) as u8,
-        b'0' + (n / 100 % 10) as u8,
-        b'0' + (n / 10 % 10) as u8,
-        b'0' + (n / 1 % 10) as u8,
+        b'0' + (size / 10000000000000000000 % 10) as u8,
+        b'0' + (size / 1000000000000000000 % 10) as u8,
+        b'0' + (size / 100000000000000000 % 10) as u8,
+        b'0' + (size / 10000000000000000 % 10) as u8,
+        b'0' + (size / 1000000000000000 % 10) as u8,
+        b'0' + (size / 100000000000000 % 10) as u8,
+        b'0' + (size / 10000000000000 % 10) as u8,
+        b'0' + (size / 1000000000000 % 10) as u8,
+        b'0' + (size / 100000000000 % 10) as u8,
+        b'0' + (size / 10000000000 % 10) as u8,
+        b'0' + (size / 1000000000 % 10) as u8,
+        b'0' + (size / 100000000 % 10) as u8,
+        b'0' + (size / 10000000 % 10) as u8,
+        b'0' + (size / 1000000 % 10) as u8,
+        b'0' + (size / 100000 % 10) as u8,
+        b'0' + (size / 10000 % 10) as u8,
+        b'0' + (size / 1000 % 10) as u8,
+        b'0' + (size / 100 % 10) as u8,
+        b'0' + (size / 10 % 10) as u8,
+        b'0' + (size / 1 % 10) as u8,
     ]
 }
 
@@ -239,8 +239,8 @@ pub fn append_unsigned(out: &mut [u8], at: usize, n: u64) -> usize
 {
     let text = unsigned_text(n);
     let bytes = text.bytes;
-    let from = text.from;
-    append(out, at, &bytes[from..])
+    let first = text.from;
+    append(out, at, &bytes[first..])
 }
 
 // Appends a number in decimal, with `-` in front where it is negative.
