@@ -256,10 +256,10 @@ pub fn i32_field(line: &[u8], c: Cursor) -> I32Field
     ensures { λ r. ⌜ (r .value ≡ integerAt (2 ^ 31 - 1) (now (line .entry)) c .value) × (r .next ≡ integerAt (2 ^ 31 - 1) (now (line .entry)) c .next) ⌝ }
 {
     let f = integer_field(line, c, 2147483647);
-    let next = f.next;
+    let after = f.next;
     I32Field {
         value: f.value as i32,
-        next,
+        next: after,
     }
 }
 
@@ -270,8 +270,8 @@ pub fn hex_field(line: &[u8], c: Cursor, out: &mut [u8]) -> Field
     let w = next_word(line, c.at);
     let from = w.from;
     let end = w.end;
-    let a = hex_word(&line[from..end], out);
-    filled(a, c.fine, end, line.len())
+    let count = hex_word(&line[from..end], out);
+    filled(count, c.fine, end, line.len())
 }
 
 // The next word as the bit pattern of a double.
@@ -281,8 +281,8 @@ pub fn pattern_field(line: &[u8], c: Cursor) -> Field
     let w = next_word(line, c.at);
     let from = w.from;
     let end = w.end;
-    let a = bits_of(&line[from..end]);
-    filled(a, c.fine, end, line.len())
+    let bits = bits_of(&line[from..end]);
+    filled(bits, c.fine, end, line.len())
 }
 
 // ---- doubles

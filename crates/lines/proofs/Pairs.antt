@@ -180,4 +180,3 @@ pub hex-none : (s : List ℕ) → length s ≡ 0 → 45 ∷ [] ≡ hexShown s
 unfolding hexShown
 hex-none [] h = refl
 hex-none (b ∷ s) h = absurd (omega arith)
-
