@@ -3,10 +3,10 @@ use answer::Refusal;
 use answer::Written;
 use block::BlockAnswer;
 use clock::TickAnswer;
+use fields::Cursor;
 use julian::JulianAnswer;
 use julian::JulianDate;
 use leap::Table;
-use lines::Cursor;
 use stamp::InstantAnswer;
 use stamp::Label;
 use stamp::Reading;
@@ -24,25 +24,25 @@ pub struct Answered {
 // ---- words of an answer
 
 fn bad(out: &mut [u8], at: usize) -> usize {
-    lines::append(out, at, b"?")
+    digits::append(out, at, b"?")
 }
 
 // A blank and a number.
 fn number(out: &mut [u8], at: usize, n: u64) -> usize {
-    let next = lines::append(out, at, b" ");
-    lines::append_unsigned(out, next, n)
+    let next = digits::append(out, at, b" ");
+    digits::append_unsigned(out, next, n)
 }
 
 fn signed(out: &mut [u8], at: usize, z: i64) -> usize {
-    let next = lines::append(out, at, b" ");
-    lines::append_signed(out, next, z)
+    let next = digits::append(out, at, b" ");
+    digits::append_signed(out, next, z)
 }
 
 fn bits(out: &mut [u8], at: usize, x: f64) -> usize {
-    let next = lines::append(out, at, b" ");
+    let next = digits::append(out, at, b" ");
     let mut text = [0u8; 16];
-    let k = io::hex(lines::pattern(x), 16, &mut text);
-    lines::append(out, next, &text[..k])
+    let k = io::hex(fields::pattern(x), 16, &mut text);
+    digits::append(out, next, &text[..k])
 }
 
 fn three(out: &mut [u8], at: usize, x: u32, y: u32, z: u32) -> usize {
@@ -66,8 +66,8 @@ fn stamped(out: &mut [u8], at: usize, z: Stamp) -> usize {
 
 // The number of a refusal and what follows it, zeros.
 fn refused(out: &mut [u8], at: usize, why: Refusal, zeros: &[u8]) -> usize {
-    let a = lines::append_unsigned(out, at, answer::number_of(why) as u64);
-    lines::append(out, a, zeros)
+    let a = digits::append_unsigned(out, at, answer::number_of(why) as u64);
+    digits::append(out, a, zeros)
 }
 
 // ---- words of a call
@@ -78,12 +78,12 @@ pub struct LabelField {
 }
 
 fn label_field(line: &[u8], c: Cursor) -> LabelField {
-    let year = lines::u32_field(line, c);
-    let month = lines::u32_field(line, year.next);
-    let day = lines::u32_field(line, month.next);
-    let hour = lines::u32_field(line, day.next);
-    let minute = lines::u32_field(line, hour.next);
-    let second = lines::u32_field(line, minute.next);
+    let year = fields::u32_field(line, c);
+    let month = fields::u32_field(line, year.next);
+    let day = fields::u32_field(line, month.next);
+    let hour = fields::u32_field(line, day.next);
+    let minute = fields::u32_field(line, hour.next);
+    let second = fields::u32_field(line, minute.next);
     let value = Label {
         year: year.value,
         month: month.value,
@@ -110,8 +110,8 @@ fn pairs(
     let mut i = 0;
     while i < 64 {
         if i < k {
-            let m = lines::u32_field(line, c);
-            let o = lines::i32_field(line, m.next);
+            let m = fields::u32_field(line, c);
+            let o = fields::i32_field(line, m.next);
             months[i] = m.value;
             let z = o.value;
             offsets[i] = z;
@@ -124,12 +124,12 @@ fn pairs(
 
 // table COUNT K M O M O ..
 fn set_table(line: &[u8], c: Cursor, t: Table, out: &mut [u8], at: usize) -> Answered {
-    let count = lines::number_field(line, c, u64::MAX);
-    let k = lines::number_field(line, count.next, 64);
+    let count = fields::number_field(line, c, u64::MAX);
+    let k = fields::number_field(line, count.next, 64);
     let mut months = [0u32; 64];
     let mut offsets = [0i32; 64];
     let end = pairs(line, k.next, k.value as usize, &mut months, &mut offsets);
-    if !lines::ended(line, end) {
+    if !fields::ended(line, end) {
         return Answered {
             used: bad(out, at),
             table: t,
@@ -141,7 +141,7 @@ fn set_table(line: &[u8], c: Cursor, t: Table, out: &mut [u8], at: usize) -> Ans
         offsets,
     };
     Answered {
-        used: lines::append(out, at, b"ok"),
+        used: digits::append(out, at, b"ok"),
         table,
     }
 }
@@ -195,7 +195,7 @@ fn places(months: &[u32; 64], offsets: &[i32; 64], k: usize, out: &mut [u8], at:
 
 fn block_answer(a: BlockAnswer, out: &mut [u8], at: usize) -> usize {
     match a {
-        BlockAnswer::Read => lines::append(out, at, b"0 0"),
+        BlockAnswer::Read => digits::append(out, at, b"0 0"),
         BlockAnswer::Refused(why, place) => {
             let a = refused(out, at, why, b"");
             number(out, a, place as u64)
@@ -206,8 +206,8 @@ fn block_answer(a: BlockAnswer, out: &mut [u8], at: usize) -> usize {
 // read_block HEX
 fn read_block(line: &[u8], c: Cursor, out: &mut [u8], at: usize) -> usize {
     let mut bytes = [0u8; 1024];
-    let f = lines::hex_field(line, c, &mut bytes);
-    if !lines::ended(line, f.next) {
+    let f = fields::hex_field(line, c, &mut bytes);
+    if !fields::ended(line, f.next) {
         return bad(out, at);
     }
     let n = lines::front(&bytes, f.value as usize);
@@ -226,7 +226,7 @@ fn read_block(line: &[u8], c: Cursor, out: &mut [u8], at: usize) -> usize {
 fn length(w: Written, out: &mut [u8], at: usize) -> usize {
     match w {
         Written::Wrote(n) => {
-            let a = lines::append(out, at, b"0");
+            let a = digits::append(out, at, b"0");
             number(out, a, n as u64)
         }
         Written::Refused(why) => refused(out, at, why, b" 0"),
@@ -236,7 +236,7 @@ fn length(w: Written, out: &mut [u8], at: usize) -> usize {
 // What a writer answered, and the first `room` bytes of its buffer.
 fn written(w: Written, bytes: &[u8], room: usize, out: &mut [u8], at: usize) -> usize {
     let a = length(w, out, at);
-    let b = lines::append(out, a, b" ");
+    let b = digits::append(out, a, b" ");
     let k = lines::front(bytes, room);
     lines::append_hex(out, b, &bytes[..k])
 }
@@ -248,8 +248,8 @@ fn write_block_into(t: Table, bytes: &mut [u8], room: usize) -> Written {
 
 // write_block ROOM
 fn write_block(line: &[u8], c: Cursor, t: Table, out: &mut [u8], at: usize) -> usize {
-    let f = lines::number_field(line, c, 256);
-    if !lines::ended(line, f.next) {
+    let f = fields::number_field(line, c, 256);
+    if !fields::ended(line, f.next) {
         return bad(out, at);
     }
     let mut bytes = [165u8; 256];
@@ -263,7 +263,7 @@ fn write_block(line: &[u8], c: Cursor, t: Table, out: &mut [u8], at: usize) -> u
 fn instant(a: InstantAnswer, out: &mut [u8], at: usize) -> usize {
     match a {
         InstantAnswer::At(x) => {
-            let b = lines::append(out, at, b"0");
+            let b = digits::append(out, at, b"0");
             signed(out, b, x)
         }
         InstantAnswer::Refused(why) => refused(out, at, why, b" 0"),
@@ -272,10 +272,10 @@ fn instant(a: InstantAnswer, out: &mut [u8], at: usize) -> usize {
 
 // instant_of SCALE Y MO D H MI S US
 fn instant_of(line: &[u8], c: Cursor, t: Table, out: &mut [u8], at: usize) -> usize {
-    let scale = lines::u32_field(line, c);
+    let scale = fields::u32_field(line, c);
     let l = label_field(line, scale.next);
-    let micro = lines::u32_field(line, l.next);
-    if !lines::ended(line, micro.next) {
+    let micro = fields::u32_field(line, l.next);
+    if !fields::ended(line, micro.next) {
         return bad(out, at);
     }
     let label = l.value;
@@ -288,14 +288,14 @@ fn instant_of(line: &[u8], c: Cursor, t: Table, out: &mut [u8], at: usize) -> us
 
 // stamp_of INSTANT SCALE
 fn stamp_of(line: &[u8], c: Cursor, t: Table, out: &mut [u8], at: usize) -> usize {
-    let x = lines::i64_field(line, c);
-    let scale = lines::u32_field(line, x.next);
-    if !lines::ended(line, scale.next) {
+    let x = fields::i64_field(line, c);
+    let scale = fields::u32_field(line, x.next);
+    if !fields::ended(line, scale.next) {
         return bad(out, at);
     }
     match stamp::stamp_of(t, x.value, scale.value) {
         StampAnswer::Stamped(z) => {
-            let b = lines::append(out, at, b"0");
+            let b = digits::append(out, at, b"0");
             stamped(out, b, z)
         }
         StampAnswer::Refused(why) => refused(out, at, why, b" 0 0 0 0 0 0 0 0"),
@@ -306,16 +306,16 @@ fn stamp_of(line: &[u8], c: Cursor, t: Table, out: &mut [u8], at: usize) -> usiz
 
 // read_text SCALE HEX
 fn read_text(line: &[u8], c: Cursor, t: Table, out: &mut [u8], at: usize) -> usize {
-    let scale = lines::u32_field(line, c);
+    let scale = fields::u32_field(line, c);
     let mut bytes = [0u8; 1024];
-    let f = lines::hex_field(line, scale.next, &mut bytes);
-    if !lines::ended(line, f.next) {
+    let f = fields::hex_field(line, scale.next, &mut bytes);
+    if !fields::ended(line, f.next) {
         return bad(out, at);
     }
     let n = lines::front(&bytes, f.value as usize);
     match text::read_text(t, scale.value, &bytes[..n]) {
         TextAnswer::Read { instant, stamp } => {
-            let b = lines::append(out, at, b"0");
+            let b = digits::append(out, at, b"0");
             let d = signed(out, b, instant);
             stamped(out, d, stamp)
         }
@@ -338,12 +338,12 @@ fn write_text_into(t: Table, a: Asked, bytes: &mut [u8], room: usize) -> Written
 
 // write_text INSTANT PICTURE SCALE DIGITS ROOM
 fn write_text(line: &[u8], c: Cursor, t: Table, out: &mut [u8], at: usize) -> usize {
-    let x = lines::i64_field(line, c);
-    let picture = lines::u32_field(line, x.next);
-    let scale = lines::u32_field(line, picture.next);
-    let digits = lines::u32_field(line, scale.next);
-    let f = lines::number_field(line, digits.next, 256);
-    if !lines::ended(line, f.next) {
+    let x = fields::i64_field(line, c);
+    let picture = fields::u32_field(line, x.next);
+    let scale = fields::u32_field(line, picture.next);
+    let digits = fields::u32_field(line, scale.next);
+    let f = fields::number_field(line, digits.next, 256);
+    if !fields::ended(line, f.next) {
         return bad(out, at);
     }
     let a = Asked {
@@ -362,14 +362,14 @@ fn write_text(line: &[u8], c: Cursor, t: Table, out: &mut [u8], at: usize) -> us
 
 // write_julian INSTANT SCALE
 fn write_julian(line: &[u8], c: Cursor, t: Table, out: &mut [u8], at: usize) -> usize {
-    let x = lines::i64_field(line, c);
-    let scale = lines::u32_field(line, x.next);
-    if !lines::ended(line, scale.next) {
+    let x = fields::i64_field(line, c);
+    let scale = fields::u32_field(line, x.next);
+    if !fields::ended(line, scale.next) {
         return bad(out, at);
     }
     match julian::write_julian(t, x.value, scale.value) {
         JulianAnswer::Dated(d) => {
-            let a = lines::append(out, at, b"0");
+            let a = digits::append(out, at, b"0");
             let b = bits(out, a, d.midnight);
             bits(out, b, d.fraction)
         }
@@ -381,14 +381,14 @@ fn write_julian(line: &[u8], c: Cursor, t: Table, out: &mut [u8], at: usize) -> 
 
 // read_julian SCALE BITS BITS
 fn read_julian(line: &[u8], c: Cursor, t: Table, out: &mut [u8], at: usize) -> usize {
-    let scale = lines::u32_field(line, c);
-    let m = lines::pattern_field(line, scale.next);
-    let f = lines::pattern_field(line, m.next);
-    if !lines::ended(line, f.next) {
+    let scale = fields::u32_field(line, c);
+    let m = fields::pattern_field(line, scale.next);
+    let f = fields::pattern_field(line, m.next);
+    if !fields::ended(line, f.next) {
         return bad(out, at);
     }
-    let midnight = lines::double(m.value);
-    let fraction = lines::double(f.value);
+    let midnight = fields::double(m.value);
+    let fraction = fields::double(f.value);
     let d = JulianDate { midnight, fraction };
     instant(julian::read_julian(t, scale.value, d), out, at)
 }
@@ -398,7 +398,7 @@ fn read_julian(line: &[u8], c: Cursor, t: Table, out: &mut [u8], at: usize) -> u
 fn ticked(a: TickAnswer, out: &mut [u8], at: usize) -> usize {
     match a {
         TickAnswer::Next(l) => {
-            let b = lines::append(out, at, b"0");
+            let b = digits::append(out, at, b"0");
             label(out, b, l)
         }
         TickAnswer::Refused(why) => refused(out, at, why, b" 0 0 0 0 0 0"),
@@ -407,7 +407,7 @@ fn ticked(a: TickAnswer, out: &mut [u8], at: usize) -> usize {
 
 // start
 fn start(line: &[u8], c: Cursor, t: Table, out: &mut [u8], at: usize) -> usize {
-    if !lines::ended(line, c) {
+    if !fields::ended(line, c) {
         return bad(out, at);
     }
     ticked(clock::start(t), out, at)
@@ -416,7 +416,7 @@ fn start(line: &[u8], c: Cursor, t: Table, out: &mut [u8], at: usize) -> usize {
 // tick Y MO D H MI S
 fn tick(line: &[u8], c: Cursor, t: Table, out: &mut [u8], at: usize) -> usize {
     let l = label_field(line, c);
-    if !lines::ended(line, l.next) {
+    if !fields::ended(line, l.next) {
         return bad(out, at);
     }
     ticked(clock::tick(t, l.value), out, at)

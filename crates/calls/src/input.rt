@@ -66,11 +66,11 @@ fn answer_line(line: &[u8], s: State, out: &mut [u8]) -> State {
         let next = a.table;
         return State {
             len: 0,
-            used: lines::append(out, a.used, b"\n"),
+            used: digits::append(out, a.used, b"\n"),
             table: next,
         };
     }
-    let end = lines::append(out, used, b"?\n");
+    let end = digits::append(out, used, b"?\n");
     State {
         len: 0,
         used: end,

@@ -1,22 +1,19 @@
--- Pairs of hex digits, read into a buffer, and the sixteen digits of a double.
+-- Pairs of hex digits, read into a buffer and written from bytes.
 -- Assumes nothing.
 use mathlib.Core.Path.{_≡_, refl, sym, ap, _∙_}
 use mathlib.Core.Bool.{Bool, true, false, cond}
 use mathlib.Core.List.{List, [], _∷_, _++_, append-assoc, append-nil}
-use Prim.Native.Nat.{ℕ, zero, suc, _+_, _-_, _*_, _/_, _^_, _≤_, _<_}
+use Prim.Native.Nat.{ℕ, suc, _+_, _*_, _/_, _%_, _≤_, _<_}
 use native.Mathlib.Numerals.{add-one}
-use native.Mathlib.Nat.{pow-suc, lt-of-lt-of-le, pow-le-pow-right}
 use native.Mathlib.Omega.{arith}
 use borrow.Author.Tests.{lt-ltb, le-ltb, eq-eqb, ne-eqb, le-leb, lt-leb}
-use lib.Dec.{eqb, ltb, leb, lit<}
-use Rattle.laws.proofs.Placed.{place-none}
-use Rattle.lines.proofs.Words.{dash-empty, dash-minus, dash-plain}
-use lib.ListN.{length, take, drop, getD, set, take-append-drop, drop-of-length-le, length-take, length-drop, length-set}
-use lib.Seq.{drop-cons, drop-drop, take-at, take-suc-set, drop-set-lt, length-take-le}
+use lib.Dec.{ltb, leb}
+use lib.ListN.{length, take, drop, getD, set, take-append-drop, length-drop, length-set}
+use lib.Seq.{drop-cons, drop-drop, take-at, take-suc, take-suc-set, drop-set-lt, length-take-le}
 use Rattle.laws.specs.Placed.{place}
-use Rattle.lines.specs.Hex.{nibble, paired, allPairs, hexOf, hexInto, hexWord, nibbled, patternOf}
-use Rattle.lines.specs.declared.Number.{Number}
-use Rattle.lines.specs.declared.Number.the-variants.{Is, Bad}
+use Rattle.laws.proofs.Placed.{place-none, place-then}
+use Rattle.digits.specs.declared.Number.the-variants.{Is, Bad}
+use Rattle.lines.specs.Pairs.{nibble, paired, allPairs, hexOf, hexInto, glyph, hexText, hexShown}
 
 -- the two digits at a pair's place
 module _ (s : List ℕ) (i : ℕ) (h : i * 2 + 1 < length s) where
@@ -89,33 +86,6 @@ module _ (w start out : List ℕ) (i : ℕ) (r : Read w start out i) (room : len
       let z : 0 + length (paired w) ≡ i = omega arith in
       (n, sym (take-append-drop i out) ∙ ap (λ (l : List ℕ). l ++ drop i out) f ∙ ap (λ (l : List ℕ). paired w ++ l) (r .rest) ∙ ap (λ (k : ℕ). paired w ++ drop k start) (sym z))
 
--- ---- sixteen digits
-pub nibbled-more : (n i b : ℕ) (s : List ℕ) → i < length s → b ≡ nibble (getD s i 0) → b < 16 → nibbled n (drop i s) ≡ nibbled (n * 16 + b) (drop (i + 1) s)
-unfolding nibbled
-nibbled-more n i b s h e l = rw (drop-cons s i 0 h, ← e, lt-ltb b 16 l, add-one)
-
-pub nibbled-bad : (n i b : ℕ) (s : List ℕ) → i < length s → b ≡ nibble (getD s i 0) → 16 ≤ b → nibbled n (drop i s) ≡ Bad
-unfolding nibbled
-nibbled-bad n i b s h e l = rw (drop-cons s i 0 h, ← e, le-ltb b 16 l)
-
-pub nibbled-end : (n i : ℕ) (s : List ℕ) → length s ≤ i → nibbled n (drop i s) ≡ Is n
-unfolding nibbled
-nibbled-end n i s h = rw (drop-of-length-le s h)
-
-pub pattern-short : (s : List ℕ) → (length s ≡ 16 → ⊥) → Bad ≡ patternOf s
-unfolding patternOf
-pattern-short s h = rw (ne-eqb (length s) 16 h)
-
-pub pattern-of : (s : List ℕ) → length s ≡ 16 → nibbled 0 s ≡ patternOf s
-unfolding patternOf
-pattern-of s h = rw (eq-eqb (length s) 16 h)
-
-pub below : (n i : ℕ) → n < 16 ^ i → i < 16 → n < 16 ^ 15
-below n i h l = lt-of-lt-of-le h (pow-le-pow-right (lit< tt) {i = i} {j = 15} (omega arith))
-
-pub more-digits : (n i b : ℕ) → n < 16 ^ i → b < 16 → n * 16 + b < 16 ^ (i + 1)
-more-digits n i b h l = rw (add-one, pow-suc) (omega arith)
-
 -- ---- a word of pairs in a buffer with room
 module _ (out s : List ℕ) where
   pub no-room : length out < length s / 2 → (Bad ≡ hexOf (length out) s) × (out ≡ hexInto out s)
@@ -146,62 +116,14 @@ paired-few (a ∷ b ∷ s) = go (ltb (nibble a) 16) (ltb (nibble b) 16) (paired-
     go true false h = omega arith
     go true true h = omega arith
 
--- ---- a word of pairs, or `-`
-into-none : (out s : List ℕ) → paired s ≡ [] → out ≡ hexInto out s
+-- nothing is stored where there are no pairs
+pub into-none : (out s : List ℕ) → paired s ≡ [] → out ≡ hexInto out s
 unfolding hexInto
 into-none out s e = go (leb (length s / 2) (length out))
   where
     go : (t : Bool) → out ≡ cond t (place out 0 (paired s)) out
     go true = rw e (sym (place-none out 0))
     go false = refl
-
-dash-none : (s : List ℕ) → getD s 0 0 ≡ 45 → paired s ≡ []
-unfolding paired nibble
-dash-none [] e = refl
-dash-none (a ∷ []) e = refl
-dash-none (a ∷ b ∷ s) e = rw e
-
-after-dash : List ℕ → Number
-after-dash rest = cond (eqb (length rest) 0) (Is 0) Bad
-
-module _ (room : ℕ) (s : List ℕ) (some : length s ≡ 0 → ⊥) where
-  word-dash : getD s 0 0 ≡ 45 → after-dash (take (length s - 1) (drop 1 s)) ≡ hexWord room s
-  unfolding hexWord after-dash
-  word-dash e = dash-minus Bad after-dash (hexOf room) s some e
-
-  pub word-plain : (getD s 0 0 ≡ 45 → ⊥) → hexOf room s ≡ hexWord room s
-  unfolding hexWord after-dash
-  word-plain e = dash-plain Bad after-dash (hexOf room) s some e
-
-empty-none : (s : List ℕ) → length s ≡ 0 → paired s ≡ []
-unfolding paired
-empty-none [] h = refl
-empty-none (b ∷ s) h = absurd (omega arith)
-
-rest-length : (s : List ℕ) → length (take (length s - 1) (drop 1 s)) ≡ length s - 1
-rest-length s = simp (length-take, length-drop) (omega arith)
-
-module _ (out s : List ℕ) where
-  pub hex-empty : length s ≡ 0 → (Bad ≡ hexWord (length out) s) × (out ≡ hexInto out s)
-  unfolding hexWord
-  hex-empty h = (dash-empty Bad _ (hexOf (length out)) s h, into-none out s (empty-none s h))
-
-  module _ (some : length s ≡ 0 → ⊥) (e : getD s 0 0 ≡ 45) where
-    pub hex-dash : length s ≡ 1 → (Is 0 ≡ hexWord (length out) s) × (out ≡ hexInto out s)
-    unfolding after-dash
-    hex-dash h =
-        let n : length s - 1 ≡ 0 = omega arith in
-        (rw (rest-length s, eq-eqb (length s - 1) 0 n) at (word-dash (length out) s some e), into-none out s (dash-none s e))
-
-    pub hex-dashed : (length s ≡ 1 → ⊥) → (Bad ≡ hexWord (length out) s) × (out ≡ hexInto out s)
-    unfolding after-dash
-    hex-dashed h =
-        let n : length s - 1 ≡ 0 → ⊥ = λ q. h (one (length s) some q) in
-        (rw (rest-length s, ne-eqb (length s - 1) 0 n) at (word-dash (length out) s some e), into-none out s (dash-none s e))
-      where
-        one : (n : ℕ) → (n ≡ 0 → ⊥) → n - 1 ≡ 0 → n ≡ 1
-        one zero k q = absurd (k refl)
-        one (suc n) k q = omega arith
 
 -- ---- a caller with room for every pair
 module _ (s : List ℕ) {room : ℕ} (h : length s / 2 ≤ room) where
@@ -224,3 +146,37 @@ module _ (s : List ℕ) {room : ℕ} (h : length s / 2 ≤ room) where
 pub into-front : (out s : List ℕ) → length s / 2 ≤ length out → take (length (paired s)) (hexInto out s) ≡ paired s
 unfolding hexInto
 into-front out s h = rw (le-leb (length s / 2) (length out) h) (take-at (paired s) _ (length (paired s)) refl)
+
+-- ---- bytes as hex
+
+pub hex-length : (s : List ℕ) → length (hexText s) ≡ length s * 2
+unfolding hexText
+hex-length [] = refl
+hex-length (b ∷ s) = let h = hex-length s in omega arith
+
+hex-append : (s t : List ℕ) → hexText (s ++ t) ≡ hexText s ++ hexText t
+unfolding hexText
+hex-append [] t = refl
+hex-append (b ∷ s) t = ap (λ (l : List ℕ). glyph (b / 16) ∷ glyph (b % 16) ∷ l) (hex-append s t)
+
+-- one byte more, right after those placed
+pub hex-more : (l : List ℕ) (i k : ℕ) (s : List ℕ) {o p : List ℕ} → k < length s → i + length s * 2 ≤ length l
+    → o ≡ place l i (hexText (take k s)) → p ≡ hexText (getD s k 0 ∷ []) → place o (i + k * 2) p ≡ place l i (hexText (take (k + 1) s))
+hex-more l i k s {o} {p} h r e q =
+    let n : length (hexText (take k s)) ≡ k * 2 = hex-length (take k s) ∙ ap (λ (m : ℕ). m * 2) (length-take-le k s (omega arith)) in
+    let m : length (hexText (getD s k 0 ∷ [])) ≡ 2 = hex-length (getD s k 0 ∷ []) in
+    ap (place o (i + k * 2)) q ∙ place-then l i (hexText (take k s)) (hexText (getD s k 0 ∷ [])) {j = i + k * 2} e (omega arith) (omega arith)
+    ∙ ap (place l i) (sym (hex-append (take k s) (getD s k 0 ∷ [])) ∙ ap hexText (sym (rw (add-one k) (take-suc s k 0 h))))
+
+pub pair-size : (b : ℕ) {p : List ℕ} → p ≡ hexText (b ∷ []) → length p ≡ 2
+pair-size b e = ap length e ∙ hex-length (b ∷ [])
+
+pub hex-some : (s : List ℕ) → (length s ≡ 0 → ⊥) → hexText s ≡ hexShown s
+unfolding hexShown
+hex-some [] h = absurd (h refl)
+hex-some (b ∷ s) h = refl
+
+pub hex-none : (s : List ℕ) → length s ≡ 0 → 45 ∷ [] ≡ hexShown s
+unfolding hexShown
+hex-none [] h = refl
+hex-none (b ∷ s) h = absurd (omega arith)

@@ -24,10 +24,10 @@ use Rattle.clock.specs.Promise.{admits}
 use Rattle.text.specs.declared.TextAnswer.the-variants.{Read, Refused as NotRead}
 use Rattle.text.specs.Guess.{guessed, hasPicture}
 use Rattle.text.specs.Text.{readingOf, readAnswer, textAnswer}
-use Rattle.lines.specs.declared.Number.{Number}
-use Rattle.lines.specs.declared.Number.the-variants.{Is, Bad}
-use Rattle.lines.specs.Numbers.{Within, decimalOf}
-use Rattle.lines.proofs.Counting.{decimal-within}
+use Rattle.digits.specs.declared.Number.{Number}
+use Rattle.digits.specs.declared.Number.the-variants.{Is, Bad}
+use Rattle.digits.specs.Decimals.{Within, decimalOf}
+use Rattle.digits.proofs.Decimals.{decimal-within}
 use Rattle.listing.specs.declared.CountAnswer.the-variants.{Count, NoCount}
 use Rattle.listing.specs.Listing.{short, without, asCount, stampLine, countLine}
 

@@ -7,8 +7,10 @@ use native.Mathlib.Omega.{arith}
 use lib.ListN.{length, length-append}
 use Rattle.answer.specs.declared.Refusal.{Refusal}
 use Rattle.answer.specs.Refusals.{number}
-use Rattle.lines.specs.Shown.{Appended, Placed, decimalText}
-use Rattle.lines.proofs.Appending.{placed, placed-then, then-placed, decimal-few}
+use Rattle.digits.specs.Bytes.{Appended, Placed}
+use Rattle.digits.specs.Decimals.{decimalText}
+use Rattle.digits.proofs.Bytes.{placed, placed-then, then-placed}
+use Rattle.digits.proofs.Decimals.{decimal-few}
 use Rattle.listing.specs.Listing.{refusedWord, refusalText, header}
 
 module _ (out : List ℕ) where

@@ -25,9 +25,10 @@ use Rattle.clock.specs.Clock.{whole}
 use Rattle.clock.specs.Promise.{admits}
 use Rattle.text.specs.Pictures.{pictureText}
 use Rattle.text.specs.Text.{textOf, textAt, bufferThen}
-use Rattle.lines.specs.Shown.{Appended, Placed, signedText}
-use Rattle.lines.proofs.Appending.{placed, placed-then}
-use Rattle.lines.proofs.Signs.{signed-few}
+use Rattle.digits.specs.Bytes.{Appended, Placed}
+use Rattle.digits.specs.Decimals.{signedText}
+use Rattle.digits.proofs.Bytes.{placed, placed-then}
+use Rattle.digits.proofs.Decimals.{signed-few}
 use Rattle.listing.specs.Listing.{taiSecond, rowText}
 
 -- ---- whole seconds

@@ -16,8 +16,8 @@ use Rattle.clock.specs.declared.TickAnswer.the-variants.{Next, Refused as Ended
 use Rattle.clock.specs.Clock.{tickAnswer}
 use Rattle.clock.specs.Promise.{admits, Ticks}
 use Rattle.clock.proofs.Run.{all-run}
-use Rattle.lines.specs.Shown.{Placed}
-use Rattle.lines.proofs.Appending.{is-placed, then-placed}
+use Rattle.digits.specs.Bytes.{Placed}
+use Rattle.digits.proofs.Bytes.{is-placed, then-placed}
 use Rattle.listing.specs.Listing.{rowText, onward, rows}
 
 -- what a tick of an admitted label gives is admitted

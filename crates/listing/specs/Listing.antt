@@ -24,12 +24,12 @@ use Rattle.text.specs.declared.TextAnswer.{TextAnswer}
 use Rattle.text.specs.declared.TextAnswer.the-variants.{Read, Refused as NotRead}
 use Rattle.text.specs.Pictures.{ascii}
 use Rattle.text.specs.Text.{textOf, textAnswer}
-use Rattle.lines.specs.declared.Number.{Number}
-use Rattle.lines.specs.declared.Number.the-variants.{Is, Bad}
+use Rattle.digits.specs.declared.Number.{Number}
+use Rattle.digits.specs.declared.Number.the-variants.{Is, Bad}
 use Rattle.lines.specs.Words.{before}
-use Rattle.lines.specs.Numbers.{decimalOf}
-use Rattle.lines.specs.Hex.{paired, allPairs}
-use Rattle.lines.specs.Shown.{decimalText, signedText}
+use Rattle.digits.specs.Decimals.{decimalOf}
+use Rattle.lines.specs.Pairs.{paired, allPairs}
+use Rattle.digits.specs.Decimals.{decimalText, signedText}
 use Rattle.listing.specs.declared.CountAnswer.{CountAnswer}
 use Rattle.listing.specs.declared.CountAnswer.the-variants.{Count, NoCount}
 

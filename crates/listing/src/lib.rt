@@ -13,15 +13,15 @@ ghost use Rattle.block.specs.Reading.{refusedAt};
 ghost use Rattle.leap.specs.Leap.{accepted};
 ghost use Rattle.clock.specs.Promise.{admits};
 ghost use Rattle.lines.specs.Words.{before};
-ghost use Rattle.lines.specs.Shown.{Placed};
+ghost use Rattle.digits.specs.Bytes.{Placed};
 ghost use Rattle.listing.specs.Listing.{lineOf, blockLine, stampLine, countLine, refusalText, header, rowText, rows, fromCount, fromStamp, fromBlock, listed};
 use answer::Refusal;
 use answer::Written;
 use block::BlockAnswer;
 use block::BlockRead;
 use clock::TickAnswer;
+use digits::Number;
 use leap::Table;
-use lines::Number;
 use stamp::InstantAnswer;
 use stamp::Label;
 use stamp::Reading;
@@ -118,7 +118,7 @@ fn count_line(line: &[u8]) -> CountAnswer
     if 1024 < line.len() {
         return CountAnswer::NoCount(Refusal::Shape);
     }
-    let n = lines::decimal(line, 3600);
+    let n = digits::decimal(line, 3600);
     let Number::Is(k) = n else {
         return CountAnswer::NoCount(Refusal::Ask);
     };
@@ -145,10 +145,10 @@ fn put_row(t: Table, l: Label, out: &mut [u8], at: usize) -> usize
     };
     let mut picture = [0u8; 19];
     text::write_text(t, instant, 0, 0, 0, &mut picture);
-    let b = lines::append(out, at, &picture);
-    let c = lines::append(out, b, b" ");
-    let d = lines::append_signed(out, c, seconds(instant));
-    lines::append(out, d, b"\n")
+    let b = digits::append(out, at, &picture);
+    let c = digits::append(out, b, b" ");
+    let d = digits::append_signed(out, c, seconds(instant));
+    digits::append(out, d, b"\n")
 }
 
 // Stores up to `count` of them from index `from` on.
@@ -175,7 +175,7 @@ fn print_rows(t: Table, first: Label, count: usize, out: &mut [u8]) -> usize
     requires { ⌜ (accepted t ≡ true) × (admits t first ≡ true) × (8 + 42 * count ≤ length (now out)) ⌝ }
     ensures { λ r. ⌜ Placed (now (out .entry)) 0 (header ++ rows t count first) r (now (out .exit)) ⌝ }
 {
-    let at = lines::append(out, 0, b"UTC TAI\n");
+    let at = digits::append(out, 0, b"UTC TAI\n");
     put_rows(t, first, count, out, at)
 }
 
@@ -183,9 +183,9 @@ fn print_refusal(why: Refusal, out: &mut [u8]) -> usize
     requires { ⌜ 29 ≤ length (now out) ⌝ }
     ensures { λ r. ⌜ Placed (now (out .entry)) 0 (refusalText why) r (now (out .exit)) ⌝ }
 {
-    let a = lines::append(out, 0, b"refused ");
-    let b = lines::append_unsigned(out, a, answer::number_of(why) as u64);
-    lines::append(out, b, b"\n")
+    let a = digits::append(out, 0, b"refused ");
+    let b = digits::append_unsigned(out, a, answer::number_of(why) as u64);
+    digits::append(out, b, b"\n")
 }
 
 // ---- the first bad line decides

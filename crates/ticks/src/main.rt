@@ -14,7 +14,7 @@ fn read_byte() -> Got {
     let mut one = [0u8; 1];
     let got = libc::read(STDIN_FILENO, &mut one);
     if got == 1 {
-        return Got::Byte(lines::byte_at(&one, 0));
+        return Got::Byte(digits::byte_at(&one, 0));
     }
     Got::End
 }

@@ -3,8 +3,9 @@
 use native.Mathlib.Omega.{arith}
 use Prim.Native.Nat.{_+_, _*_}
 use lib.ListN.{length}
-use Rattle.lines.specs.Shown.{hexText}
-use Rattle.lines.proofs.Appending.{same-text, room-yes, room-no, hex-length, hex-some, hex-none}
+use Rattle.digits.proofs.Bytes.{same-text, room-yes, room-no}
+use Rattle.lines.specs.Pairs.{hexText}
+use Rattle.lines.proofs.Pairs.{hex-length, hex-some, hex-none}
 use borrow.Author.Needs.{needs}
 use Rattle.lines.proofs.append_hex.Statement.{statement}
 use Rattle.lines.proofs.append_hex.Tie as tie

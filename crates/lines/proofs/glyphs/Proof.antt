@@ -1,6 +1,6 @@
 -- The two digits as the definition has them.
 -- Assumes nothing.
-use Rattle.lines.specs.Shown.{hexText}
+use Rattle.lines.specs.Pairs.{hexText}
 use borrow.Author.Needs.{needs}
 use Rattle.lines.proofs.glyphs.Statement.{statement}
 use Rattle.lines.proofs.glyphs.Tie as tie

@@ -2,7 +2,7 @@
 -- Assumes nothing.
 use native.Mathlib.Omega.{arith}
 use borrow.Author.Tests.{le-leb, lt-leb}
-use Rattle.lines.specs.Hex.{nibble}
+use Rattle.lines.specs.Pairs.{nibble}
 use borrow.Author.Needs.{needs}
 use Rattle.lines.proofs.hex_digit.Statement.{statement}
 use Rattle.lines.proofs.hex_digit.Tie as tie

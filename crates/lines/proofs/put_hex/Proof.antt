@@ -2,14 +2,15 @@
 -- Assumes nothing.
 use native.Mathlib.Omega.{arith}
 use borrow.Author.Needs.{needs}
-use Prim.Native.Nat.{_-_, _≤_}
+use Prim.Native.Nat.{_+_, _*_, _-_, _≤_}
 use mathlib.Core.Path.{_≡_, refl, sym, ap, _∙_}
 use lib.ListN.{length, take}
 use lib.Seq.{take-all}
 use Rattle.laws.specs.Placed.{place}
-use Rattle.lines.specs.Shown.{hexText}
+use Rattle.digits.proofs.Bytes.{placed}
+use Rattle.lines.specs.Pairs.{hexText}
 use Rattle.laws.proofs.Placed.{place-none}
-use Rattle.lines.proofs.Appending.{pair-size, hex-more}
+use Rattle.lines.proofs.Pairs.{pair-size, hex-more}
 use Rattle.lines.proofs.put_hex.Statement.{statement}
 use Rattle.lines.proofs.put_hex.Tie as tie
 
@@ -24,20 +25,18 @@ unfolding hexText
 loop-holds c =
     (omega arith, refl, sym (place-none (c .before .before .args .out .now) (c .before .before .args .at)))
 
-slice-aggregate-put : tie.Need-slice-aggregate-put Inv-loop μ-loop
-slice-aggregate-put c =
+slice-aggregate-append : tie.Need-slice-aggregate-append Inv-loop μ-loop
+slice-aggregate-append c =
     sym (pair-size _ (c .before .before .glyphs .ensures))
-
-put-requires : tie.Need-put-requires Inv-loop μ-loop
-put-requires c κs =
-    let h = pair-size _ (c .before .before .glyphs .ensures) in search needs
 
 loop-again : tie.Need-loop-again Inv-loop μ-loop
 loop-again c =
     let l = c .before .before .before .before .before .before .before .before in
     let a = l .before .before .before .args in
-    let k = c .before .before .put .ensures in
-    (omega arith, omega arith, k ∙ hex-more (a .out .now) (a .at) (l .loop .i) (a .bytes .now) (omega arith) (l .before .before .before .pre) (l .loop .inv .2) (c .before .before .before .before .before .glyphs .ensures))
+    let g = c .before .before .before .before .before .glyphs in
+    let h = pair-size _ (g .ensures) in
+    let k = placed (l .loop .out) (a .at + l .loop .i * 2) (g .result) (omega arith) (c .before .before .append .ensures) in
+    (omega arith, omega arith, k .text ∙ hex-more (a .out .now) (a .at) (l .loop .i) (a .bytes .now) (omega arith) (l .before .before .before .pre) (l .loop .inv .2) (g .ensures))
 
 returns : tie.Need-returns Inv-loop μ-loop
 returns c =
@@ -57,8 +56,8 @@ put-hex-spec =
     (λ c κs. search needs)
     (λ c. search needs)
     (λ c. search needs)
-    slice-aggregate-put
-    put-requires
+    slice-aggregate-append
+    (λ c κs. search needs)
     (λ c. search needs)
     (λ c. search needs)
     loop-again

@@ -7,7 +7,7 @@ use borrow.Author.Tests.{le-leb, lt-leb}
 use lib.ListN.{length, take}
 use Rattle.answer.proofs.Orders.{refused, passed}
 use Rattle.block.specs.Reading.{readBlock}
-use Rattle.lines.specs.Hex.{paired}
+use Rattle.lines.specs.Pairs.{paired}
 use Rattle.lines.proofs.Pairs.{hex-bad, hex-good, into-front, paired-few}
 use Rattle.listing.specs.Listing.{blockLine}
 use Rattle.listing.proofs.block_line.Statement.{statement}

@@ -9,7 +9,7 @@ use lib.ListN.{length, take, length-replicate}
 use lib.Seq.{length-take-le}
 use Rattle.laws.proofs.Placed.{place-zero, over-front}
 use Rattle.answer.specs.Buffers.{written, bufferAfter}
-use Rattle.lines.specs.Shown.{Placed}
+use Rattle.digits.specs.Bytes.{Placed}
 use Rattle.listing.specs.Listing.{listed}
 use Rattle.listing.proofs.list.Statement.{statement}
 use Rattle.listing.proofs.list.Tie as tie

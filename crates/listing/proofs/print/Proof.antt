@@ -7,7 +7,7 @@ use borrow.Author.Needs.{needs}
 use Rattle.leap.specs.declared.Table.{Table}
 use Rattle.block.specs.declared.BlockAnswer.{BlockAnswer}
 use Rattle.block.specs.declared.BlockRead.{BlockRead}
-use Rattle.lines.proofs.Appending.{placed-as}
+use Rattle.digits.proofs.Bytes.{placed-as}
 use Rattle.listing.specs.Listing.{blockLine, afterBlock, fromStamp, fromBlock}
 use Rattle.listing.proofs.print.Statement.{statement}
 use Rattle.listing.proofs.print.Tie as tie

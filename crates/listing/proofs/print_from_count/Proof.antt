@@ -5,7 +5,7 @@ use mathlib.Core.List.{_++_}
 use Prim.Native.Nat.{ℕ}
 use native.Mathlib.Omega.{arith}
 use borrow.Author.Needs.{needs}
-use Rattle.lines.proofs.Appending.{placed-as}
+use Rattle.digits.proofs.Bytes.{placed-as}
 use Rattle.listing.specs.Listing.{header, rows, afterCount, fromCount}
 use Rattle.listing.proofs.Judged.{count-most}
 use Rattle.listing.proofs.print_from_count.Statement.{statement}

@@ -3,7 +3,7 @@
 use mathlib.Core.Path.{sym, ap, _∙_}
 use borrow.Author.Needs.{needs}
 use Rattle.stamp.specs.declared.Label.{Label}
-use Rattle.lines.proofs.Appending.{placed-as}
+use Rattle.digits.proofs.Bytes.{placed-as}
 use Rattle.listing.specs.Listing.{afterStamp, fromCount, fromStamp}
 use Rattle.listing.proofs.Judged.{stamp-good}
 use Rattle.listing.proofs.print_from_stamp.Statement.{statement}

@@ -4,7 +4,7 @@ use mathlib.Core.Path.{_≡_}
 use mathlib.Core.List.{List}
 use Prim.Native.Nat.{ℕ}
 use borrow.Author.Needs.{needs}
-use Rattle.lines.proofs.Appending.{placed-as}
+use Rattle.digits.proofs.Bytes.{placed-as}
 use Rattle.listing.specs.Listing.{lineOf, fromBlock, listed}
 use Rattle.listing.proofs.print_input.Statement.{statement}
 use Rattle.listing.proofs.print_input.Tie as tie

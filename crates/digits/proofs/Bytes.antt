@@ -1,0 +1,104 @@
+-- Bytes at an index, bytes that are the same, and text in a lent buffer: one appended, one behind another.
+-- Assumes nothing.
+use mathlib.Core.Path.{_≡_, refl, sym, ap, ap₂, subst, _∙_}
+use mathlib.Core.Bool.{true, _&&_}
+use mathlib.Core.List.{List, [], _∷_, _++_, append-assoc}
+use Prim.Native.Nat.{ℕ, zero, suc, _+_, _-_, min, _≤_, _<_}
+use native.Mathlib.Omega.{arith}
+use borrow.Author.Tests.{le-leb, lt-leb, eq-eqb, eqb-true}
+use lib.Dec.{eqb}
+use lib.ListN.{length, take, drop, length-append, length-drop}
+use lib.Seq.{length-take-le, take-all, take-at}
+use Rattle.laws.specs.Placed.{place}
+use Rattle.laws.proofs.Cases.{and-l, and-r, join}
+use Rattle.laws.proofs.Placed.{length-place, place-then}
+use Rattle.digits.specs.Bytes.{bytesAt, sameBytes, next, appended, Appended, Placed}
+
+pub bytes-length : (s : List ℕ) (i w : ℕ) → length (bytesAt s i w) ≡ w
+bytes-length s i zero = refl
+bytes-length s i (suc w) = ap suc (bytes-length s (i + 1) w)
+
+pub same-yes : {a b : List ℕ} → a ≡ b → sameBytes a b ≡ true
+same-yes {a} e = subst (λ (b : List ℕ). sameBytes a b ≡ true) e (self a)
+  where
+    self : (a : List ℕ) → sameBytes a a ≡ true
+    self [] = refl
+    self (x ∷ xs) = join (eq-eqb x x refl) (self xs)
+
+pub same-true : (a b : List ℕ) → sameBytes a b ≡ true → a ≡ b
+same-true [] [] e = refl
+same-true [] (y ∷ ys) e = cc
+same-true (x ∷ xs) [] e = cc
+same-true (x ∷ xs) (y ∷ ys) e = ap₂ _∷_ (eqb-true x y (and-l _ (sameBytes xs ys) e)) (same-true xs ys (and-r (eqb x y) _ e))
+
+-- what a slice from an index to the end of 21 bytes holds
+pub rest-is : (l : List ℕ) (i : ℕ) → length l ≡ 21 → take (21 - i) (drop i l) ≡ drop i l
+rest-is l i h = take-all (21 - i) (drop i l) (simp length-drop (omega arith))
+
+-- ---- one text appended
+
+module _ (l : List ℕ) (i : ℕ) (v : List ℕ) where
+  pub room-yes : i + length v ≤ length l → {o : List ℕ} → o ≡ place l i v → Appended l i v (i + length v) o
+  unfolding next appended
+  room-yes h {o} e =
+      let n : length o ≡ length l = ap length e ∙ length-place l i v h in
+      record {
+        end = rw (le-leb (i + length v) (length l) h);
+        text = rw (le-leb (i + length v) (length l) h) e;
+        counts = (omega arith, sym (length-take-le (i + length v) o (omega arith)));
+      }
+
+  pub room-no : length l < i + length v → {r : ℕ} → r ≡ min i (length l) → Appended l i v r l
+  unfolding next appended
+  room-no h {r} e =
+      record {
+        end = rw (lt-leb (i + length v) (length l) h) e;
+        text = rw (lt-leb (i + length v) (length l) h);
+        counts = (omega arith, sym (length-take-le r l (omega arith)));
+      }
+
+-- the same text by another name
+pub same-text : (l : List ℕ) (i r : ℕ) {v w o : List ℕ} → v ≡ w → Appended l i v r o → Appended l i w r o
+same-text l i r {o = o} e = subst (λ (x : List ℕ). Appended l i x r o) e
+
+-- two texts, the one behind the other, in a buffer with room for both
+module _ (l a b : List ℕ) (h : length a + length b ≤ length l) {m o : List ℕ} {r s : ℕ} (p : Appended l 0 a r m) (q : Appended m (length a) b s o) where
+  first : m ≡ a ++ drop (length a) l
+  unfolding appended
+  first = let z : 0 + length a ≡ length a = omega arith in p .text ∙ rw (z, le-leb (length a) (length l) (omega arith))
+
+  size : length m ≡ length l
+  size = ap length first ∙ simp (length-append, length-drop) (omega arith)
+
+  pub both : take s o ≡ a ++ b
+  unfolding next appended
+  both =
+      let k : length a + length b ≤ length m = omega (arith, size) in
+      let e : s ≡ length a + length b = q .end ∙ rw (le-leb (length a + length b) (length m) k) in
+      let f : o ≡ take (length a) m ++ (b ++ drop (length a + length b) m) = q .text ∙ rw (le-leb (length a + length b) (length m) k) in
+      let g : take (length a) m ≡ a = ap (take (length a)) first ∙ take-at a (drop (length a) l) (length a) refl in
+      let n : s ≡ length (a ++ b) = e ∙ sym (length-append a b) in
+      rw (n, f, g, ← append-assoc a b) (take-at (a ++ b) _ (length (a ++ b)) refl)
+
+-- ---- texts one behind the other where there is room
+
+module _ (l : List ℕ) (i : ℕ) (v : List ℕ) {r : ℕ} {o : List ℕ} (h : i + length v ≤ length l) where
+  pub is-placed : r ≡ i + length v → o ≡ place l i v → Placed l i v r o
+  is-placed e q = record { end = e; text = q; size = ap length q ∙ length-place l i v h; inside = omega arith }
+
+  pub placed : Appended l i v r o → Placed l i v r o
+  unfolding next appended
+  placed p = is-placed (p .end ∙ rw (le-leb (i + length v) (length l) h)) (p .text ∙ rw (le-leb (i + length v) (length l) h))
+
+-- the same text by another name
+pub placed-as : {l : List ℕ} {i : ℕ} {v w : List ℕ} {r : ℕ} {o : List ℕ} → v ≡ w → Placed l i v r o → Placed l i w r o
+placed-as {l} {i} {r = r} {o = o} e p = subst (λ (x : List ℕ). Placed l i x r o) e p
+
+module _ (l : List ℕ) (i : ℕ) (a b : List ℕ) {j r : ℕ} {m o : List ℕ} (p : Placed l i a j m) where
+  pub then-placed : Placed m j b r o → Placed l i (a ++ b) r o
+  then-placed q =
+      let n : i + length (a ++ b) ≤ length l = simp length-append (omega (arith, p .end, p .size, q .end, q .inside)) in
+      is-placed l i (a ++ b) n (q .end ∙ simp length-append (omega (arith, p .end))) (q .text ∙ place-then l i a b (p .text) (p .end) (omega (arith, p .size, q .end, q .inside)))
+
+  pub placed-then : i + (length a + length b) ≤ length l → Appended m j b r o → Placed l i (a ++ b) r o
+  placed-then h q = then-placed (placed m j b (omega (arith, p .end, p .size)) q)
