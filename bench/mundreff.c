@@ -2,35 +2,35 @@
 #include "frame.h"
 #include "mundreff.h"
 
-static uint64_t count, place, length, read_count;
-static uint32_t months[64], read_months[64], stamps[INPUTS][8], stamp[8], label[6], next[6];
-static int32_t offsets[64], read_offsets[64];
+static mundreff_table table, read_table;
+static mundreff_stamp stamps[INPUTS], stamp;
+static mundreff_label labels[INPUTS], label, next;
+static size_t place, length, block_size;
 static int64_t instant;
-static uint8_t bytes[256], block[138];
-static size_t block_size;
+static char text[MUNDREFF_TEXT_ROOM];
+static uint8_t bytes[256], block[MUNDREFF_BLOCK_ROOM];
 static double midnight, fraction;
-#define TABLE count, months, offsets
 
-static uint32_t read_text(int i) { return mundreff_read_text(TABLE, 0, (const uint8_t *)texts[i], 26, &instant, stamp); }
-static uint32_t write_text(int i) { return mundreff_write_text(TABLE, instants[i], 0, 0, 6, bytes, 27, &length); }
-static uint32_t instant_of(int i) { return mundreff_instant_of(TABLE, stamps[i], &instant); }
-static uint32_t stamp_of(int i) { return mundreff_stamp_of(TABLE, instants[i], 0, stamp); }
-static uint32_t write_julian(int i) { return mundreff_write_julian(TABLE, instants[i], 0, &midnight, &fraction); }
-static uint32_t read_julian(int i) { return mundreff_read_julian(TABLE, 0, midnights[i], fractions[i], &instant); }
-static uint32_t start(int i) { (void)i; return mundreff_start(TABLE, label); }
-static uint32_t tick(int i) { return mundreff_tick(TABLE, &stamps[i][1], next); }
-static uint32_t read_block(int i) { (void)i; return mundreff_read_block(block, block_size, &place, &read_count, read_months, read_offsets); }
-static uint32_t write_block(int i) { (void)i; return mundreff_write_block(TABLE, bytes, sizeof bytes, &length); }
+static uint32_t read_text(int i) { return mundreff_read_text(&table, MUNDREFF_UTC, texts[i], 26, &instant, &stamp); }
+static uint32_t write_text(int i) { return mundreff_write_text(&table, instants[i], MUNDREFF_MONTH_NUMBER, MUNDREFF_UTC, 6, text, sizeof text, &length); }
+static uint32_t instant_of(int i) { return mundreff_instant_of(&table, &stamps[i], &instant); }
+static uint32_t stamp_of(int i) { return mundreff_stamp_of(&table, instants[i], MUNDREFF_UTC, &stamp); }
+static uint32_t write_julian(int i) { return mundreff_write_julian(&table, instants[i], MUNDREFF_UTC, &midnight, &fraction); }
+static uint32_t read_julian(int i) { return mundreff_read_julian(&table, MUNDREFF_UTC, midnights[i], fractions[i], &instant); }
+static uint32_t start(int i) { (void)i; return mundreff_start(&table, &label); }
+static uint32_t tick(int i) { return mundreff_tick(&table, &labels[i], &next); }
+static uint32_t read_block(int i) { (void)i; return mundreff_read_block(block, block_size, &place, &read_table); }
+static uint32_t write_block(int i) { (void)i; return mundreff_write_block(&table, bytes, sizeof bytes, &length); }
 
 static int instant_right(int i) { return instant == instants[i]; }
-static int stamp_right(int i) { return !memcmp(stamp, stamps[i], sizeof stamp); }
+static int stamp_right(int i) { return !memcmp(&stamp, &stamps[i], sizeof stamp); }
 static int read_right(int i) { return instant_right(i) && stamp_right(i); }
-static int text_right(int i) { return length == 26 && !memcmp(bytes, texts[i], 26); }
+static int text_right(int i) { return length == 26 && !memcmp(text, texts[i], 26); }
 static int pair_right(int i) { return midnight == midnights[i] && fraction == fractions[i]; }
-static int start_right(int i) { (void)i; return label[0] == 1972 && label[1] == 1 && label[2] == 1 && !(label[3] | label[4] | label[5]); }
+static int start_right(int i) { (void)i; return label.year == 1972 && label.month == 1 && label.day == 1 && !(label.hour | label.minute | label.second); }
 /* a second on, but for the last of a minute, which begins another */
-static int next_right(int i) { return stamps[i][6] < 59 ? next[5] == stamps[i][6] + 1 : next[5] == 0; }
-static int table_right(int i) { (void)i; return read_count == count && !memcmp(read_months, months, sizeof months) && !memcmp(read_offsets, offsets, sizeof offsets); }
+static int next_right(int i) { return labels[i].second < 59 ? next.second == labels[i].second + 1 : next.second == 0; }
+static int table_right(int i) { (void)i; return !memcmp(&read_table, &table, sizeof table); }
 static int block_right(int i) { (void)i; return length == 29 && !memcmp(bytes, block, 29); }
 
 #define ROW(name, call, right)                                                \
@@ -58,11 +58,16 @@ ROW("table to block", write_block, block_right)
 int main(void)
 {
     make_inputs();
-    EACH for (int k = 0; k < 7; k++) stamps[i][k + 1] = (uint32_t)fields[i][k];
-    mundreff_bulletin_c(&count, months, offsets);
-    if (mundreff_write_block(TABLE, block, sizeof block, &length))
+    EACH {
+        uint32_t f[7];
+        for (int k = 0; k < 7; k++)
+            f[k] = (uint32_t)fields[i][k];
+        labels[i] = (mundreff_label){f[0], f[1], f[2], f[3], f[4], f[5]};
+        stamps[i] = (mundreff_stamp){MUNDREFF_UTC, f[0], f[1], f[2], f[3], f[4], f[5], f[6]};
+    }
+    mundreff_bulletin_c(&table);
+    if (mundreff_write_block(&table, block, sizeof block, &block_size))
         return 1;
-    block_size = length;
     row_read_text();
     row_write_text();
     row_instant_of();

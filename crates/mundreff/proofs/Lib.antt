@@ -1,1 +1,4 @@
 pub mod Results
+pub mod Words
+pub mod Laid
+pub mod Bits

@@ -1,5 +1,5 @@
--- What C is handed: the answers in the scope's numbers, as the crates below have them (`instantResults`, `stampResults`, ..), with a stamp as eight
--- numbers, a label as six and a pair as two, in the order in which they are written. A refused one is all zero.
+-- What C is handed: the answers in the scope's numbers, as the crates below have them (`instantResults`, `stampResults`, ..), with a table as 129
+-- words, a stamp as eight numbers, a label as six and a pair as two, in the order in which they are written. A refused one is all zero.
 -- Assumes nothing.
 use mathlib.Core.List.{List, [], _∷_, _++_}
 use Prim.Native.Nat.{ℕ}
@@ -12,10 +12,16 @@ use Rattle.stamp.specs.Instants.{scaleNumber}
 use Rattle.stamp.specs.Stamps.{stampResults}
 use Rattle.clock.specs.declared.TickAnswer.{TickAnswer}
 use Rattle.clock.specs.Clock.{tickResults}
+use Rattle.block.specs.declared.BlockRead.{BlockRead}
+use Rattle.block.specs.Reading.{blockResults}
 use Rattle.text.specs.declared.TextAnswer.{TextAnswer}
 use Rattle.text.specs.Text.{textResults}
 use Rattle.julian.specs.declared.JulianAnswer.{JulianAnswer}
 use Rattle.julian.specs.Dates.{julianResults}
+use Rattle.mundreff.specs.Words.{tableWords}
+
+abbrev pub tableNumbers : BlockRead → ℕ × ℕ × List ℕ
+tableNumbers b = (blockResults b .0, blockResults b .1, tableWords (blockResults b .2))
 
 abbrev pub stampFields : Stamp → List ℕ
 stampFields z = scaleNumber (z .scale) ∷ (fields (z .reading .label) ++ z .reading .micro ∷ [])

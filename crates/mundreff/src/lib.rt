@@ -1,19 +1,24 @@
 // The C interface of include/mundreff.h: each call answers the refusal's number, 0 on success, and writes every output on every call.
-// A call makes a table of the lent arrays, asks the crate whose work it is, and stores what `Answers` of specs/ says of the answer.
+// A call takes the table out of its words, asks the crate whose work it is, and stores what `Answers` of specs/ says of the answer.
 ghost use mathlib.Core.Path.{_≡_};
+ghost use mathlib.Core.List.{map};
+ghost use lib.ListN.{length};
+ghost use Rattle.laws.specs.Placed.{place};
 ghost use Rattle.answer.specs.Buffers.{writtenResults};
-ghost use Rattle.leap.specs.Leap.{tabled, bulletinC};
+ghost use Rattle.leap.specs.Leap.{bulletinC};
 ghost use Rattle.stamp.specs.Labels.{fields};
 ghost use Rattle.stamp.specs.Instants.{instantAnswer, instantResults};
 ghost use Rattle.stamp.specs.Stamps.{stampAnswer};
 ghost use Rattle.clock.specs.Clock.{startAnswer, tickAnswer};
-ghost use Rattle.block.specs.Reading.{blockResults, readBlock};
+ghost use Rattle.block.specs.Reading.{readBlock};
 ghost use Rattle.text.specs.Text.{textAnswer, writeAnswer, bufferThen};
 ghost use Rattle.julian.specs.Dates.{julianAnswer, dateAnswer};
-ghost use Rattle.mundreff.specs.Answers.{stampFields, stampNumbers, textNumbers, labelNumbers, pairNumbers};
+ghost use Rattle.mundreff.specs.Words.{offsetFrom, offsetWord, wordsAt, tableFrom, tableWords};
+ghost use Rattle.mundreff.specs.Answers.{tableNumbers, stampFields, stampNumbers, textNumbers, labelNumbers, pairNumbers};
 ghost use Rattle.mundreff.specs.Calls.{labelFrom, scaleFrom, readingFrom, pair, blockWritten, blockAfter};
 use answer::Written;
 use block::BlockAnswer;
+use block::BlockRead;
 use clock::TickAnswer;
 use julian::JulianAnswer;
 use julian::JulianDate;
@@ -28,15 +33,56 @@ use text::TextAnswer;
 
 // ---- what C hands over
 
-fn table_of<'a>(count: usize, months: &'a [u32; 64], offsets: &'a [i32; 64]) -> Table
-    ensures { λ r. ⌜ r ≡ tabled count (now (months .entry)) (now (offsets .entry)) ⌝ }
+// No cast keeps the bits of a number with its top bit set, so these go by its distance from -1; both compile to nothing.
+fn offset_of(word: u32) -> i32
+    ensures { λ r. ⌜ r ≡ offsetFrom word ⌝ }
 {
-    let m = *months;
-    let o = *offsets;
+    if word < 2147483648 {
+        return word as i32;
+    }
+    -1 - ((4294967295 - word) as i32)
+}
+
+fn count_of(word: u32) -> usize
+    ensures { λ r. ⌜ r ≡ word ⌝ }
+{
+    word as usize
+}
+
+fn months_of(words: &[u32; 129]) -> [u32; 64]
+    ensures { λ r. ⌜ r ≡ wordsAt 1 64 (now (words .entry)) ⌝ }
+{
+    let mut months = [0; 64];
+    let mut k = 0;
+    while k < 64 {
+        months[k] = words[1 + k];
+        k += 1;
+    }
+    months
+}
+
+fn offsets_of(words: &[u32; 129]) -> [i32; 64]
+    ensures { λ r. ⌜ r ≡ map offsetFrom (wordsAt 65 64 (now (words .entry))) ⌝ }
+{
+    let mut offsets = [0; 64];
+    let mut k = 0;
+    while k < 64 {
+        offsets[k] = offset_of(words[65 + k]);
+        k += 1;
+    }
+    offsets
+}
+
+fn table_of(words: &[u32; 129]) -> Table
+    ensures { λ r. ⌜ r ≡ tableFrom (now (words .entry)) ⌝ }
+{
+    let count = count_of(words[0]);
+    let months = months_of(words);
+    let offsets = offsets_of(words);
     Table {
         count,
-        months: m,
-        offsets: o,
+        months,
+        offsets,
     }
 }
 
@@ -72,20 +118,47 @@ fn reading_of(stamp: &[u32; 8]) -> Reading
 
 // ---- what C is handed: each `give_` stores the values of an answer, zero on a refusal, and returns its number
 
-fn store_table<'a>(
-    t: Table,
-    count: &'a mut usize,
-    months: &'a mut [u32; 64],
-    offsets: &'a mut [i32; 64],
-)
-    ensures { λ _. ⌜ tabled (now (count .exit)) (now (months .exit)) (now (offsets .exit)) ≡ t ⌝ }
+fn word_of(offset: i32) -> u32
+    ensures { λ r. ⌜ r ≡ offsetWord offset ⌝ }
 {
-    let n = t.count;
-    let m = t.months;
-    let o = t.offsets;
-    *count = n;
-    *months = m;
-    *offsets = o;
+    if offset < 0 {
+        return 4294967295 - ((-1 - offset) as u32);
+    }
+    offset as u32
+}
+
+fn store_months(months: [u32; 64], out: &mut [u32; 129])
+    requires { ⌜ length (now out) ≡ 129 ⌝ }
+    ensures { λ _. ⌜ (length months ≡ 64) × (now (out .exit) ≡ place (now (out .entry)) 1 months) ⌝ }
+{
+    let mut k = 0;
+    while k < 64 {
+        out[1 + k] = months[k];
+        k += 1;
+    }
+}
+
+fn store_offsets(offsets: [i32; 64], out: &mut [u32; 129])
+    requires { ⌜ length (now out) ≡ 129 ⌝ }
+    ensures { λ _. ⌜ (length offsets ≡ 64) × (now (out .exit) ≡ place (now (out .entry)) 65 (map offsetWord offsets)) ⌝ }
+{
+    let mut k = 0;
+    while k < 64 {
+        let offset = offsets[k];
+        out[65 + k] = word_of(offset);
+        k += 1;
+    }
+}
+
+fn store_table(t: Table, out: &mut [u32; 129])
+    ensures { λ _. ⌜ now (out .exit) ≡ tableWords t ⌝ }
+{
+    let months = t.months;
+    let offsets = t.offsets;
+    *out = [0; 129];
+    out[0] = (t.count % 4294967296) as u32;
+    store_months(months, out);
+    store_offsets(offsets, out);
 }
 
 fn store_label(l: Label, out: &mut [u32; 6])
@@ -212,33 +285,11 @@ fn give_pair<'a>(a: JulianAnswer, midnight: &'a mut f64, fraction: &'a mut f64) 
     }
 }
 
-// ---- the calls
-
-#[no_mangle]
-pub extern "C" fn mundreff_bulletin_c<'a>(
-    count: &'a mut usize,
-    months: &'a mut [u32; 64],
-    offsets: &'a mut [i32; 64],
-) -> u32
-    ensures { λ r. ⌜ (r ≡ 0) × (tabled (now (count .exit)) (now (months .exit)) (now (offsets .exit)) ≡ bulletinC) ⌝ }
+fn give_table<'a>(found: BlockRead, place: &'a mut usize, table: &'a mut [u32; 129]) -> u32
+    ensures { λ r. ⌜ (r, now (place .exit), now (table .exit)) ≡ tableNumbers found ⌝ }
 {
-    store_table(leap::bulletin_c(), count, months, offsets);
-    0
-}
-
-#[no_mangle]
-pub extern "C" fn mundreff_read_block<'a>(
-    block: &[u8],
-    place: &mut usize,
-    count: &'a mut usize,
-    months: &'a mut [u32; 64],
-    offsets: &'a mut [i32; 64],
-) -> u32
-    ensures { λ r. ⌜ (r, now (place .exit), tabled (now (count .exit)) (now (months .exit)) (now (offsets .exit))) ≡ blockResults (readBlock (now (block .entry))) ⌝ }
-{
-    let found = block::read_block(block);
-    let table = found.table;
-    store_table(table, count, months, offsets);
+    let t = found.table;
+    store_table(t, table);
     let a = found.answer;
     match a {
         BlockAnswer::Read => {
@@ -252,75 +303,81 @@ pub extern "C" fn mundreff_read_block<'a>(
     }
 }
 
+// ---- the calls
+
 #[no_mangle]
-pub extern "C" fn mundreff_write_block<'a>(
-    count: usize,
-    months: &'a [u32; 64],
-    offsets: &'a [i32; 64],
-    out: &mut [u8],
-    length: &mut usize,
-) -> u32
-    ensures { λ r. ⌜ (r, now (length .exit)) ≡ writtenResults (blockWritten (tabled count (now (months .entry)) (now (offsets .entry))) (now (out .entry))) ⌝ }
-    ensures { λ _. ⌜ now (out .exit) ≡ blockAfter (tabled count (now (months .entry)) (now (offsets .entry))) (now (out .entry)) ⌝ }
+pub extern "C" fn mundreff_bulletin_c(table: &mut [u32; 129]) -> u32
+    ensures { λ r. ⌜ (r ≡ 0) × (now (table .exit) ≡ tableWords bulletinC) ⌝ }
 {
-    let a = block::write_block(table_of(count, months, offsets), out);
-    give_length(a, length)
+    store_table(leap::bulletin_c(), table);
+    0
 }
 
 #[no_mangle]
-pub extern "C" fn mundreff_instant_of<'a>(
-    count: usize,
-    months: &'a [u32; 64],
-    offsets: &'a [i32; 64],
+pub extern "C" fn mundreff_read_block<'a>(
+    block: &[u8],
+    place: &'a mut usize,
+    table: &'a mut [u32; 129],
+) -> u32
+    ensures { λ r. ⌜ (r, now (place .exit), now (table .exit)) ≡ tableNumbers (readBlock (now (block .entry))) ⌝ }
+{
+    give_table(block::read_block(block), place, table)
+}
+
+#[no_mangle]
+pub extern "C" fn mundreff_write_block(
+    table: &[u32; 129],
+    out: &mut [u8],
+    length: &mut usize,
+) -> u32
+    ensures { λ r. ⌜ (r, now (length .exit)) ≡ writtenResults (blockWritten (tableFrom (now (table .entry))) (now (out .entry))) ⌝ }
+    ensures { λ _. ⌜ now (out .exit) ≡ blockAfter (tableFrom (now (table .entry))) (now (out .entry)) ⌝ }
+{
+    give_length(block::write_block(table_of(table), out), length)
+}
+
+#[no_mangle]
+pub extern "C" fn mundreff_instant_of(
+    table: &[u32; 129],
     stamp: &[u32; 8],
     instant: &mut i64,
 ) -> u32
-    ensures { λ r. ⌜ (r, now (instant .exit)) ≡ instantResults (instantAnswer (tabled count (now (months .entry)) (now (offsets .entry))) (scaleFrom (now (stamp .entry))) (readingFrom (now (stamp .entry)))) ⌝ }
+    ensures { λ r. ⌜ (r, now (instant .exit)) ≡ instantResults (instantAnswer (tableFrom (now (table .entry))) (scaleFrom (now (stamp .entry))) (readingFrom (now (stamp .entry)))) ⌝ }
 {
-    let a = stamp::instant_of(
-        table_of(count, months, offsets),
-        stamp[0],
-        reading_of(stamp),
-    );
+    let a = stamp::instant_of(table_of(table), stamp[0], reading_of(stamp));
     give_instant(a, instant)
 }
 
 #[no_mangle]
-pub extern "C" fn mundreff_stamp_of<'a>(
-    count: usize,
-    months: &'a [u32; 64],
-    offsets: &'a [i32; 64],
+pub extern "C" fn mundreff_stamp_of(
+    table: &[u32; 129],
     instant: i64,
     scale: u32,
     stamp: &mut [u32; 8],
 ) -> u32
-    ensures { λ r. ⌜ (r, now (stamp .exit)) ≡ stampNumbers (stampAnswer (tabled count (now (months .entry)) (now (offsets .entry))) instant scale) ⌝ }
+    ensures { λ r. ⌜ (r, now (stamp .exit)) ≡ stampNumbers (stampAnswer (tableFrom (now (table .entry))) instant scale) ⌝ }
 {
-    let a = stamp::stamp_of(table_of(count, months, offsets), instant, scale);
+    let a = stamp::stamp_of(table_of(table), instant, scale);
     give_stamp(a, stamp)
 }
 
 #[no_mangle]
-pub extern "C" fn mundreff_read_text<'a, 'b>(
-    count: usize,
-    months: &'a [u32; 64],
-    offsets: &'a [i32; 64],
+pub extern "C" fn mundreff_read_text<'a>(
+    table: &[u32; 129],
     scale: u32,
     text: &[u8],
-    instant: &'b mut i64,
-    stamp: &'b mut [u32; 8],
+    instant: &'a mut i64,
+    stamp: &'a mut [u32; 8],
 ) -> u32
-    ensures { λ r. ⌜ (r, now (instant .exit), now (stamp .exit)) ≡ textNumbers (textAnswer (tabled count (now (months .entry)) (now (offsets .entry))) scale (now (text .entry))) ⌝ }
+    ensures { λ r. ⌜ (r, now (instant .exit), now (stamp .exit)) ≡ textNumbers (textAnswer (tableFrom (now (table .entry))) scale (now (text .entry))) ⌝ }
 {
-    let a = text::read_text(table_of(count, months, offsets), scale, text);
+    let a = text::read_text(table_of(table), scale, text);
     give_text(a, instant, stamp)
 }
 
 #[no_mangle]
-pub extern "C" fn mundreff_write_text<'a>(
-    count: usize,
-    months: &'a [u32; 64],
-    offsets: &'a [i32; 64],
+pub extern "C" fn mundreff_write_text(
+    table: &[u32; 129],
     instant: i64,
     picture: u32,
     scale: u32,
@@ -328,70 +385,54 @@ pub extern "C" fn mundreff_write_text<'a>(
     out: &mut [u8],
     length: &mut usize,
 ) -> u32
-    ensures { λ r. ⌜ (r, now (length .exit)) ≡ writtenResults (writeAnswer (tabled count (now (months .entry)) (now (offsets .entry))) instant picture scale digits (now (out .entry))) ⌝ }
-    ensures { λ _. ⌜ now (out .exit) ≡ bufferThen (tabled count (now (months .entry)) (now (offsets .entry))) instant picture scale digits (now (out .entry)) ⌝ }
+    ensures { λ r. ⌜ (r, now (length .exit)) ≡ writtenResults (writeAnswer (tableFrom (now (table .entry))) instant picture scale digits (now (out .entry))) ⌝ }
+    ensures { λ _. ⌜ now (out .exit) ≡ bufferThen (tableFrom (now (table .entry))) instant picture scale digits (now (out .entry)) ⌝ }
 {
-    let t = table_of(count, months, offsets);
+    let t = table_of(table);
     let a = text::write_text(t, instant, picture, scale, digits, out);
     give_length(a, length)
 }
 
 #[no_mangle]
-pub extern "C" fn mundreff_write_julian<'a, 'b>(
-    count: usize,
-    months: &'a [u32; 64],
-    offsets: &'a [i32; 64],
+pub extern "C" fn mundreff_write_julian<'a>(
+    table: &[u32; 129],
     instant: i64,
     scale: u32,
-    midnight: &'b mut f64,
-    fraction: &'b mut f64,
+    midnight: &'a mut f64,
+    fraction: &'a mut f64,
 ) -> u32
-    ensures { λ r. ⌜ (r, now (midnight .exit), now (fraction .exit)) ≡ pairNumbers (julianAnswer (tabled count (now (months .entry)) (now (offsets .entry))) instant scale) ⌝ }
+    ensures { λ r. ⌜ (r, now (midnight .exit), now (fraction .exit)) ≡ pairNumbers (julianAnswer (tableFrom (now (table .entry))) instant scale) ⌝ }
 {
-    let a = julian::write_julian(table_of(count, months, offsets), instant, scale);
+    let a = julian::write_julian(table_of(table), instant, scale);
     give_pair(a, midnight, fraction)
 }
 
 #[no_mangle]
-pub extern "C" fn mundreff_read_julian<'a>(
-    count: usize,
-    months: &'a [u32; 64],
-    offsets: &'a [i32; 64],
+pub extern "C" fn mundreff_read_julian(
+    table: &[u32; 129],
     scale: u32,
     midnight: f64,
     fraction: f64,
     instant: &mut i64,
 ) -> u32
-    ensures { λ r. ⌜ (r, now (instant .exit)) ≡ instantResults (dateAnswer (tabled count (now (months .entry)) (now (offsets .entry))) scale (pair midnight fraction)) ⌝ }
+    ensures { λ r. ⌜ (r, now (instant .exit)) ≡ instantResults (dateAnswer (tableFrom (now (table .entry))) scale (pair midnight fraction)) ⌝ }
 {
     let date = JulianDate { midnight, fraction };
-    let a = julian::read_julian(table_of(count, months, offsets), scale, date);
+    let a = julian::read_julian(table_of(table), scale, date);
     give_instant(a, instant)
 }
 
 #[no_mangle]
-pub extern "C" fn mundreff_start<'a>(
-    count: usize,
-    months: &'a [u32; 64],
-    offsets: &'a [i32; 64],
-    label: &mut [u32; 6],
-) -> u32
-    ensures { λ r. ⌜ (r, now (label .exit)) ≡ labelNumbers (startAnswer (tabled count (now (months .entry)) (now (offsets .entry)))) ⌝ }
+pub extern "C" fn mundreff_start(table: &[u32; 129], label: &mut [u32; 6]) -> u32
+    ensures { λ r. ⌜ (r, now (label .exit)) ≡ labelNumbers (startAnswer (tableFrom (now (table .entry)))) ⌝ }
 {
-    let a = clock::start(table_of(count, months, offsets));
-    give_label(a, label)
+    give_label(clock::start(table_of(table)), label)
 }
 
+// The label becomes the next one: with one place for both, a tick in place is what is proved, and no two labels can overlap.
 #[no_mangle]
-pub extern "C" fn mundreff_tick<'a>(
-    count: usize,
-    months: &'a [u32; 64],
-    offsets: &'a [i32; 64],
-    label: &[u32; 6],
-    next: &mut [u32; 6],
-) -> u32
-    ensures { λ r. ⌜ (r, now (next .exit)) ≡ labelNumbers (tickAnswer (tabled count (now (months .entry)) (now (offsets .entry))) (labelFrom 0 (now (label .entry)))) ⌝ }
+pub extern "C" fn mundreff_tick_in_place(table: &[u32; 129], label: &mut [u32; 6]) -> u32
+    ensures { λ r. ⌜ (r, now (label .exit)) ≡ labelNumbers (tickAnswer (tableFrom (now (table .entry))) (labelFrom 0 (now (label .entry)))) ⌝ }
 {
-    let a = clock::tick(table_of(count, months, offsets), label_of(label));
-    give_label(a, next)
+    give_label(clock::tick(table_of(table), label_of(label)), label)
 }

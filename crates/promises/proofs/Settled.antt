@@ -38,5 +38,5 @@ settled-in-c =
       write-julian = λ t x k. same;
       read-julian = λ t k m f. same;
       start = λ t. same;
-      tick = λ t l. same;
+      tick-in-place = λ t l. same;
     }

@@ -20,14 +20,15 @@ use Rattle.clock.specs.declared.TickAnswer.{TickAnswer}
 use Rattle.clock.specs.Clock.{startAnswer, tickAnswer}
 use Rattle.block.specs.declared.BlockRead.{BlockRead}
 use Rattle.block.specs.Blocks.{blockOf}
-use Rattle.block.specs.Reading.{blockResults, readBlock}
+use Rattle.block.specs.Reading.{readBlock}
 use Rattle.block.specs.Promise.{tests}
 use Rattle.text.specs.declared.TextAnswer.{TextAnswer}
 use Rattle.text.specs.Text.{textAnswer, writeAnswer, bufferThen}
 use Rattle.julian.specs.declared.JulianAnswer.{JulianAnswer}
 use Rattle.julian.specs.declared.JulianDate.{JulianDate}
 use Rattle.julian.specs.Dates.{julianAnswer, dateAnswer}
-use Rattle.mundreff.specs.Answers.{stampNumbers, textNumbers, labelNumbers, pairNumbers}
+use Rattle.mundreff.specs.Words.{tableFrom, tableWords}
+use Rattle.mundreff.specs.Answers.{tableNumbers, stampNumbers, textNumbers, labelNumbers, pairNumbers}
 use Rattle.mundreff.specs.Calls.{labelFrom, scaleFrom, readingFrom, pair, blockWritten, blockAfter}
 
 -- at most one value is allowed
@@ -55,16 +56,16 @@ pub record Settled : Type 0 where
   pub tick : (t : Table) (l : Label) → AtMostOne (λ (a : TickAnswer). a ≡ tickAnswer t l)
   pub bulletin-c : AtMostOne (λ (t : Table). t ≡ bulletinC)
 
--- the calls of the C interface: the number that each returns, and everything that it writes
+-- the calls of the C interface, over what is handed over as words: the number that each returns, and everything that it writes
 pub record SettledInC : Type 0 where
-  pub bulletin-c : AtMostOne (λ (r : ℕ × Table). (r .0 ≡ 0) × (r .1 ≡ bulletinC))
-  pub read-block : (block : List ℕ) → AtMostOne (λ (r : ℕ × ℕ × Table). r ≡ blockResults (readBlock block))
-  pub write-block : (t : Table) (buffer : List ℕ) → AtMostOne (λ (r : WroteInC). (r .0 ≡ writtenResults (blockWritten t buffer)) × (r .1 ≡ blockAfter t buffer))
-  pub instant-of : (t : Table) (stamp : List ℕ) → AtMostOne (λ (r : ℕ × ℤ). r ≡ instantResults (instantAnswer t (scaleFrom stamp) (readingFrom stamp)))
-  pub stamp-of : (t : Table) (instant : ℤ) (scale : ℕ) → AtMostOne (λ (r : ℕ × List ℕ). r ≡ stampNumbers (stampAnswer t instant scale))
-  pub read-text : (t : Table) (scale : ℕ) (text : List ℕ) → AtMostOne (λ (r : ℕ × ℤ × List ℕ). r ≡ textNumbers (textAnswer t scale text))
-  pub write-text : (t : Table) (instant : ℤ) (picture scale digits : ℕ) (buffer : List ℕ) → AtMostOne (λ (r : WroteInC). (r .0 ≡ writtenResults (writeAnswer t instant picture scale digits buffer)) × (r .1 ≡ bufferThen t instant picture scale digits buffer))
-  pub write-julian : (t : Table) (instant : ℤ) (scale : ℕ) → AtMostOne (λ (r : ℕ × Float × Float). r ≡ pairNumbers (julianAnswer t instant scale))
-  pub read-julian : (t : Table) (scale : ℕ) (midnight fraction : Float) → AtMostOne (λ (r : ℕ × ℤ). r ≡ instantResults (dateAnswer t scale (pair midnight fraction)))
-  pub start : (t : Table) → AtMostOne (λ (r : ℕ × List ℕ). r ≡ labelNumbers (startAnswer t))
-  pub tick : (t : Table) (label : List ℕ) → AtMostOne (λ (r : ℕ × List ℕ). r ≡ labelNumbers (tickAnswer t (labelFrom 0 label)))
+  pub bulletin-c : AtMostOne (λ (r : ℕ × List ℕ). (r .0 ≡ 0) × (r .1 ≡ tableWords bulletinC))
+  pub read-block : (block : List ℕ) → AtMostOne (λ (r : ℕ × ℕ × List ℕ). r ≡ tableNumbers (readBlock block))
+  pub write-block : (table buffer : List ℕ) → AtMostOne (λ (r : WroteInC). (r .0 ≡ writtenResults (blockWritten (tableFrom table) buffer)) × (r .1 ≡ blockAfter (tableFrom table) buffer))
+  pub instant-of : (table stamp : List ℕ) → AtMostOne (λ (r : ℕ × ℤ). r ≡ instantResults (instantAnswer (tableFrom table) (scaleFrom stamp) (readingFrom stamp)))
+  pub stamp-of : (table : List ℕ) (instant : ℤ) (scale : ℕ) → AtMostOne (λ (r : ℕ × List ℕ). r ≡ stampNumbers (stampAnswer (tableFrom table) instant scale))
+  pub read-text : (table : List ℕ) (scale : ℕ) (text : List ℕ) → AtMostOne (λ (r : ℕ × ℤ × List ℕ). r ≡ textNumbers (textAnswer (tableFrom table) scale text))
+  pub write-text : (table : List ℕ) (instant : ℤ) (picture scale digits : ℕ) (buffer : List ℕ) → AtMostOne (λ (r : WroteInC). (r .0 ≡ writtenResults (writeAnswer (tableFrom table) instant picture scale digits buffer)) × (r .1 ≡ bufferThen (tableFrom table) instant picture scale digits buffer))
+  pub write-julian : (table : List ℕ) (instant : ℤ) (scale : ℕ) → AtMostOne (λ (r : ℕ × Float × Float). r ≡ pairNumbers (julianAnswer (tableFrom table) instant scale))
+  pub read-julian : (table : List ℕ) (scale : ℕ) (midnight fraction : Float) → AtMostOne (λ (r : ℕ × ℤ). r ≡ instantResults (dateAnswer (tableFrom table) scale (pair midnight fraction)))
+  pub start : (table : List ℕ) → AtMostOne (λ (r : ℕ × List ℕ). r ≡ labelNumbers (startAnswer (tableFrom table)))
+  pub tick-in-place : (table label : List ℕ) → AtMostOne (λ (r : ℕ × List ℕ). r ≡ labelNumbers (tickAnswer (tableFrom table) (labelFrom 0 label)))

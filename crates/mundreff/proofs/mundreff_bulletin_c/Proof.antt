@@ -1,7 +1,8 @@
 -- The table of `leap::bulletin_c`, stored.
 -- Assumes nothing.
-use mathlib.Core.Path.{refl, _∙_}
+use mathlib.Core.Path.{refl, ap, _∙_}
 use borrow.Author.Needs.{needs}
+use Rattle.mundreff.specs.Words.{tableWords}
 use Rattle.mundreff.proofs.mundreff_bulletin_c.Statement.{statement}
 use Rattle.mundreff.proofs.mundreff_bulletin_c.Tie as tie
 
@@ -11,4 +12,4 @@ mundreff-bulletin-c-spec =
     (tie.spec
     (λ c κs. search needs)
     (λ c κs. search needs)
-    (λ c. (refl, c .store-table .ensures ∙ c .before .before .before .before .bulletin-c .ensures)))
+    (λ c. (refl, c .store-table .ensures ∙ ap tableWords (c .before .before .bulletin-c .ensures))))
