@@ -1,232 +1,187 @@
 -- Accepted tables and their blocks match one to one: what is written is read back, and only what is written is read.
 -- Assumes nothing.
 use Prim.Native.Nat.{ℕ, zero, suc, _+_, _-_, _/_, _≤_, _<_}
-use mathlib.Core.Path.{_≡_, refl, sym, ap, ap₂, _∙_, subst}
-use mathlib.Core.Logic.{_⊎_}
+use mathlib.Core.Path.{_≡_, refl, sym, ap, ap₂, _∙_}
 use mathlib.Core.List.{List, [], _∷_, _++_}
 use mathlib.Core.Bool.{Bool, true}
 use native.Mathlib.Omega.{arith}
 use lib.ListN.{length, take, drop}
-use lib.Seq.{drop-append-seam, take-append-seam, getD-drop}
-use lib.IntN.{sucℤ}
+use lib.Seq.{drop-append-seam, getD-drop}
 use lib.Dec.{eqb, lit<}
 use borrow.Author.Tests.{lt-ltb, le-leb, eqb-true}
-use Rattle.laws.proofs.Cases.{by-test, by-order, join}
-use Rattle.answer.specs.declared.Refusal.{Refusal}
-use Rattle.answer.specs.declared.Written.the-variants.{Wrote, Refused as NotWritten}
-use Rattle.answer.specs.Buffers.{roomLast, written, bufferAfter}
-use Rattle.answer.proofs.Orders.{none-refused, was-passed}
-use Rattle.laws.specs.Placed.{over}
+use Rattle.laws.proofs.Cases.{by-test, join}
+use Rattle.laws.proofs.Placed.{over-front}
+use Rattle.answer.specs.Buffers.{writtenResults}
+use Rattle.answer.proofs.Writers.{wrote, wrote-over}
 use Rattle.leap.specs.declared.Table.{Table}
-use Rattle.leap.specs.Leap.{entryMonth, entryOffset}
-use Rattle.leap.proofs.Facts.{Accepted, accepted-to, accepted-from}
+use Rattle.leap.specs.Leap.{lastMonth}
+use Rattle.leap.specs.Entries.{Entry, firstEntry, entriesFrom, entries, tableOf, Good}
+use Rattle.leap.specs.Readers.{tableResults, Outcome, entered, fault, after, tableRead}
+use Rattle.leap.proofs.Facts.{accepted-to}
+use Rattle.leap.proofs.Entries.{same-entry, Later, Follow, from-long, entries-of, table-is, accepted-entries, accepted-of}
+use Rattle.leap.proofs.Readers.{was-entered}
 use Rattle.block.specs.declared.NumberAnswer.{NumberAnswer}
 use Rattle.block.specs.declared.NumberAnswer.the-variants.{Number, Cut, Groups}
-use Rattle.block.specs.declared.BlockAnswer.{BlockAnswer}
-use Rattle.block.specs.declared.BlockAnswer.the-variants.{Read, Refused}
-use Rattle.block.specs.declared.BlockRead.{BlockRead}
 use Rattle.block.specs.Numbers.{numberBytes, readNumber}
-use Rattle.block.specs.Blocks.{stepAfter, stepBytes, blockOf}
-use Rattle.block.specs.Reading.{found, refusedAt, blockResults, countFine, gapFine, nextOffset, firstTable, withEntry, onNumber, readEntries, readBlock}
-use Rattle.block.specs.Promise.{Bytes, Good, Gives, tests, OneToOne}
+use Rattle.block.specs.Blocks.{stepNumber, stepBytes, blockOf, tests, writeBlock, writeBlockAfter}
+use Rattle.block.specs.Reading.{countFine, gapFine, nextEntry, onNumber, readEntries, inBlock, readBlock}
+use Rattle.block.specs.Promise.{Bytes, Gives, OneToOne}
 use Rattle.block.proofs.Numbers.{read-written, written-read, bytes-append, bytes-groups}
-use Rattle.answer.proofs.Orders.{number-some}
 use Rattle.block.proofs.Steps.{bit, bit-small, next-bit, next-back, next-apart}
 use Rattle.block.proofs.Reading.{count-fine, gap-fine}
 use Rattle.block.proofs.Writing.{step-small}
-use Rattle.block.proofs.Entries.{entry, same-entry, next, Ends, Agree, same-table, kept, new, ends-next, ends-first, agree-first, ends-accepted}
 
 -- ---- what is written is read back
 
 -- the number of an entry gives it back
-module _ {u : Table} (a : Accepted u) (k : ℕ) (l : k + 1 < u .count) where
-  gap : stepAfter u k / 2 ≡ entryMonth u (k + 1) - entryMonth u k
-  gap = omega (arith, bit-small (entryOffset u k) (entryOffset u (k + 1)))
+module _ {e f : Entry} (l : Later e f) where
+  gap : stepNumber e f / 2 ≡ f .0 - e .0
+  gap = omega (arith, bit-small (e .1) (f .1))
 
-  step-fine : gapFine (entryMonth u k) (stepAfter u k) ≡ true
-  step-fine = join (lt-ltb 0 (stepAfter u k / 2) (omega (arith, gap, a .rising k l))) (le-leb (entryMonth u k + stepAfter u k / 2) 96335 (omega (arith, gap, a .rising k l, a .inside k l)))
+  step-fine : gapFine (e .0) (stepNumber e f) ≡ true
+  step-fine = join (lt-ltb 0 (stepNumber e f / 2) (omega (arith, gap, l .rises))) (le-leb (e .0 + stepNumber e f / 2) lastMonth (omega (arith, gap, l .rises, l .early)))
 
-  step-gives : next (entry u k) (stepAfter u k) ≡ entry u (k + 1)
-  step-gives = same-entry (omega (arith, gap, a .rising k l)) (next-back (entryOffset u k) (entryOffset u (k + 1)) (entryMonth u (k + 1) - entryMonth u k) (a .step k l))
+  step-gives : nextEntry e (stepNumber e f) ≡ f
+  step-gives = same-entry (omega (arith, gap, l .rises)) (next-back (e .1) (f .1) (f .0 - e .0) (l .step))
 
-module _ {u : Table} (a : Accepted u) (e : Ends u (u .count - 1)) where
-  entries-back : (left k at : ℕ) (t : Table) → k + 1 + left ≡ u .count → Ends t k → Agree t u k → readEntries left t k at (stepBytes u k left) ≡ found u
-  unfolding readEntries stepBytes
-  entries-back zero k at t c f g = let z : k ≡ u .count - 1 = omega arith in ap found (same-table f (rw z e) g)
-  entries-back (suc left) k at t c f g =
-      let n = stepAfter u k in
-      let l : k + 1 < u .count = omega arith in
-      let m : k + 1 < 64 = omega (arith, a .few) in
-      let here : entry t k ≡ entry u k = g .upto k (omega arith) in
-      let fine : gapFine (entryMonth t k) n ≡ true = ap (λ e. gapFine (e .0) n) here ∙ step-fine a k l in
-      let grown : Agree (withEntry t k n) u (k + 1) = record {
-        counts = g .counts;
-        upto = λ j h. by-order k j (λ i. let z : j ≡ k + 1 = omega arith in rw z (new f n m ∙ ap (λ e. next e n) here ∙ step-gives a k l)) (λ i. kept f n j (omega arith) ∙ g .upto j i);
-      } in
-      rw (read-written 2 n (stepBytes u (k + 1) left) (step-small u k a l), fine, drop-append-seam (numberBytes n) (stepBytes u (k + 1) left))
-      (entries-back left (k + 1) (at + length (numberBytes n)) (withEntry t k n) (omega arith) (ends-next f n) grown)
+entries-back : (e : Entry) (es : List Entry) (at : ℕ) → Follow e es → readEntries (length es) e at (stepBytes (e ∷ es)) ≡ entered (e ∷ es)
+unfolding readEntries stepBytes
+entries-back e [] at h = refl
+entries-back e (f ∷ es) at h =
+    let n = stepNumber e f in
+    let rest = stepBytes (f ∷ es) in
+    rw (read-written 2 n rest (step-small (h .0)), step-fine (h .0), drop-append-seam (numberBytes n) rest, step-gives (h .0))
+    (ap (after (e ∷ [])) (entries-back f es (at + length (numberBytes n)) (h .1)))
 
-block-found : (t : Table) → Good t → readBlock (blockOf t) ≡ found t
-unfolding readBlock blockOf
-block-found t g =
+block-back : (t : Table) → Good t → inBlock (blockOf t) ≡ entered (entries t)
+unfolding inBlock blockOf
+block-back t g =
     let a = accepted-to t (g .is-accepted) in
     let n = t .count in
-    let rest = stepBytes t 0 (n - 1) in
-    rw (read-written 2 n rest (omega (arith, a .few)), lt-ltb 0 n (a .some-entry), le-leb n 64 (a .few), drop-append-seam (numberBytes n) rest)
-    (entries-back a (ends-accepted (g .months-long) (g .offsets-long) a) (n - 1) 0 (length (numberBytes n)) (firstTable n) (omega (arith, a .some-entry)) (ends-first n) (agree-first a))
+    let es = entriesFrom t 1 (n - 1) in
+    let all = accepted-entries a in
+    rw (read-written 2 n (stepBytes (entries t)) (omega (arith, a .few)), lt-ltb 0 n (a .some-entry), le-leb n 64 (a .few), drop-append-seam (numberBytes n) (stepBytes (entries t)))
+    (rw (all .0) (ap (λ k. readEntries k firstEntry (length (numberBytes n)) (stepBytes (firstEntry ∷ es))) (sym (from-long t 1 (n - 1))) ∙ entries-back firstEntry es (length (numberBytes n)) (all .1)))
 
 -- ---- only what is written is read
 
-not-refused : {A : Type 0} {why : Refusal} {at : ℕ} {u : Table} → refusedAt why at ≡ found u → A
-not-refused {A} {why} {at} e =
-    let a : Refused why at ≡ Read = ap (λ (r : BlockRead). r .answer) e in
-    let z : _≡_ {A = ℕ} 0 1 = cc in
-    absurd (omega arith)
+-- where entries are found, a number was read, its own test passed, and they are what follows
+data Numbered (fine : ℕ → Bool) (follows : ℕ → ℕ → Outcome) (es : List Entry) : NumberAnswer → Type 0 where
+  numbered : (n size : ℕ) → fine n ≡ true → follows n size ≡ entered es → Numbered fine follows es (Number n size)
 
--- where a table is found, a number was read, its own test passed, and the table is what follows
-data Numbered (fine : ℕ → Bool) (follows : ℕ → ℕ → BlockRead) (t : Table) : NumberAnswer → Type 0 where
-  numbered : (n size : ℕ) → fine n ≡ true → follows n size ≡ found t → Numbered fine follows t (Number n size)
+was-number : (at : ℕ) (fine : ℕ → Bool) (follows : ℕ → ℕ → Outcome) (es : List Entry) (r : NumberAnswer) → onNumber at fine follows r ≡ entered es → Numbered fine follows es r
+was-number at fine follows es Cut e = let z : _≡_ {A = ℕ} 0 1 = cc in absurd (omega arith)
+was-number at fine follows es Groups e = let z : _≡_ {A = ℕ} 0 1 = cc in absurd (omega arith)
+was-number at fine follows es (Number n size) e =
+    by-test (fine n) (λ f. numbered n size f (rw f at e)) (λ f. let q = rw f at e in let z : _≡_ {A = ℕ} 0 1 = cc in absurd (omega arith))
 
-was-number : (at : ℕ) (fine : ℕ → Bool) (follows : ℕ → ℕ → BlockRead) (t : Table) (r : NumberAnswer) → onNumber at fine follows r ≡ found t → Numbered fine follows t r
-was-number at fine follows t Cut e = not-refused e
-was-number at fine follows t Groups e = not-refused e
-was-number at fine follows t (Number n size) e = by-test (fine n) (λ f. numbered n size f (rw f at e)) (λ f. not-refused (rw f at e))
+was-after : (e : Entry) (o : Outcome) (es : List Entry) → after (e ∷ []) o ≡ entered es → (fs : List Entry) × (o ≡ entered fs) × (es ≡ e ∷ fs)
+was-after e (entered fs) es q = (fs, refl, cc)
+was-after e (fault why at) es q = let z : _≡_ {A = ℕ} 0 1 = cc in absurd (omega arith)
 
 bytes-drop : (k : ℕ) (s : List ℕ) → Bytes s → Bytes (drop k s)
 bytes-drop k s h i = rw (getD-drop k s i 0) (h (k + i))
 
--- entry k + 1 of u is as an accepted table has it
-record Later (u : Table) (k : ℕ) : Type 0 where
-  rises : entryMonth u k < entryMonth u (k + 1)
-  early : entryMonth u (k + 1) ≤ 96335
-  step : (entryOffset u (k + 1) ≡ sucℤ (entryOffset u k)) ⊎ (entryOffset u k ≡ sucℤ (entryOffset u (k + 1)))
-
--- the entries of u after entry k, `left` in number, were read from s into t
-record Made (left k : ℕ) (t u : Table) (s : List ℕ) : Type 0 where
-  bytes : stepBytes u k left ≡ s
-  agree : Agree t u k
-  ends : Ends u (k + left)
-  later : (j : ℕ) → k ≤ j → j < k + left → Later u j
+-- es was read from s: the entry e, and after it as many as were to be read
+record Made (left : ℕ) (e : Entry) (s : List ℕ) (es : List Entry) : Type 0 where
+  rest : List Entry
+  all : es ≡ e ∷ rest
+  sized : length rest ≡ left
+  follow : Follow e rest
+  bytes : stepBytes (e ∷ rest) ≡ s
 
 -- an entry that a number gives has that number
-module _ (u : Table) (k n : ℕ) (f : entry u (k + 1) ≡ next (entry u k) n) where
-  month : entryMonth u (k + 1) ≡ entryMonth u k + n / 2
-  month = ap (λ e. e .0) f
+module _ (e : Entry) (n : ℕ) where
+  step-is : stepNumber e (nextEntry e n) ≡ n
+  step-is = omega (arith, next-bit (e .1) n)
 
-  offset : entryOffset u (k + 1) ≡ nextOffset (entryOffset u k) n
-  offset = ap (λ e. e .1) f
+  later-is : gapFine (e .0) n ≡ true → Later e (nextEntry e n)
+  later-is g = let b = gap-fine (e .0) n g in record { rises = omega arith; early = b .1; step = next-apart (e .1) n }
 
-  step-is : stepAfter u k ≡ n
-  step-is = omega (arith, month, ap (bit (entryOffset u k)) offset ∙ next-bit (entryOffset u k) n)
-
-  later-is : gapFine (entryMonth u k) n ≡ true → Later u k
-  later-is g = let b = gap-fine (entryMonth u k) n g in record { rises = omega (arith, month); early = omega (arith, month); step = rw offset (next-apart (entryOffset u k) n) }
-
-made-none : {k : ℕ} {t u : Table} (s : List ℕ) → Ends t k → t ≡ u → length s ≡ 0 → Made 0 k t u s
+made-none : (e : Entry) (s : List ℕ) {es : List Entry} → length s ≡ 0 → entered (e ∷ []) ≡ entered es → Made 0 e s es
 unfolding stepBytes
-made-none {k} {t} {u} [] f e z =
-    let i : k + 0 ≡ k = omega arith in
-    subst (λ (x : Table). Made 0 k t x []) e (record { bytes = refl; agree = record { counts = refl; upto = λ j l. refl }; ends = rw i f; later = λ j p q. absurd (omega arith) })
-made-none (x ∷ s) f e z = absurd (omega arith)
+made-none e [] z q = record { rest = []; all = cc; sized = refl; follow = tt; bytes = refl }
+made-none e (x ∷ s) z q = absurd (omega arith)
 
-made-more : {left k n size : ℕ} {t u : Table} {s : List ℕ} → k + 1 < 64 → Bytes s → Ends t k → readNumber s ≡ Number n size → gapFine (entryMonth t k) n ≡ true
-    → Made left (k + 1) (withEntry t k n) u (drop size s) → Made (suc left) k t u s
+made-more : {left n size : ℕ} {e : Entry} {s : List ℕ} {es fs : List Entry} → Bytes s → readNumber s ≡ Number n size → gapFine (e .0) n ≡ true
+    → es ≡ e ∷ fs → Made left (nextEntry e n) (drop size s) fs → Made (suc left) e s es
 unfolding stepBytes
-made-more {left} {k} {n} {size} {t} {u} {s} l h f e g m =
-    let upto : (j : ℕ) → j ≤ k → entry t j ≡ entry u j = λ j i. sym (kept f n j (omega arith)) ∙ m .agree .upto j (omega arith) in
-    let here : entry t k ≡ entry u k = upto k (omega arith) in
-    let made : entry u (k + 1) ≡ next (entry u k) n = sym (m .agree .upto (k + 1) (omega arith)) ∙ new f n l ∙ ap (λ e. next e n) here in
-    let fine : gapFine (entryMonth u k) n ≡ true = ap (λ e. gapFine (e .0) n) (sym here) ∙ g in
-    let z : k + suc left ≡ k + 1 + left = omega arith in
-    record {
-      bytes = ap₂ (λ x y. numberBytes x ++ y) (step-is u k n made) (m .bytes) ∙ sym (written-read 3 s n size h e .written);
-      agree = record { counts = m .agree .counts; upto = upto };
-      ends = rw z (m .ends);
-      later = λ j p q. by-order k j (λ i. m .later j (omega arith) (omega arith)) (λ i. let w : j ≡ k = omega arith in rw w (later-is u k n made fine));
-    }
+made-more {left} {n} {size} {e} {s} h q g all m = record {
+  rest = nextEntry e n ∷ m .rest;
+  all = all ∙ ap (λ x. e ∷ x) (m .all);
+  sized = ap suc (m .sized);
+  follow = (later-is e n g, m .follow);
+  bytes = ap₂ (λ x y. numberBytes x ++ y) (step-is e n) (m .bytes) ∙ sym (written-read 3 s n size h q .written);
+}
 
-entries-only : (left k at : ℕ) (t u : Table) (s : List ℕ) → k + 1 + left ≤ 64 → Bytes s → Ends t k → readEntries left t k at s ≡ found u → Made left k t u s
+entries-only : (left : ℕ) (e : Entry) (at : ℕ) (s : List ℕ) (es : List Entry) → Bytes s → readEntries left e at s ≡ entered es → Made left e s es
 unfolding readEntries
-entries-only zero k at t u s l h f e =
-    by-test (eqb (length s) 0)
-    (λ b. made-none s f (ap (λ (r : BlockRead). r .table) (rw b at e)) (eqb-true _ _ b))
-    (λ b. not-refused (rw b at e))
-entries-only (suc left) k at t u s l h f e =
-    go refl (was-number at (gapFine (entryMonth t k)) rest u (readNumber s) e) (λ n size. entries-only left (k + 1) (at + size) (withEntry t k n) u (drop size s) (omega arith) (bytes-drop size s h) (ends-next f n))
+entries-only zero e at s es h q =
+    by-test (eqb (length s) 0) (λ b. made-none e s (eqb-true _ _ b) (rw b at q)) (λ b. let f = rw b at q in let z : _≡_ {A = ℕ} 0 1 = cc in absurd (omega arith))
+entries-only (suc left) e at s es h q =
+    go refl (was-number at (gapFine (e .0)) rest es (readNumber s) q) (λ n size. entries-only left (nextEntry e n) (at + size) (drop size s))
   where
-    rest : ℕ → ℕ → BlockRead
-    rest n size = readEntries left (withEntry t k n) (k + 1) (at + size) (drop size s)
+    rest : ℕ → ℕ → Outcome
+    rest n size = after (e ∷ []) (readEntries left (nextEntry e n) (at + size) (drop size s))
 
-    go : {r : NumberAnswer} → readNumber s ≡ r → Numbered (gapFine (entryMonth t k)) rest u r → ((n size : ℕ) → rest n size ≡ found u → Made left (k + 1) (withEntry t k n) u (drop size s)) → Made (suc left) k t u s
-    go q (numbered n size g e) ih = made-more (omega arith) h f q g (ih n size e)
+    go : {r : NumberAnswer} → readNumber s ≡ r → Numbered (gapFine (e .0)) rest es r
+        → ((n size : ℕ) (fs : List Entry) → Bytes (drop size s) → readEntries left (nextEntry e n) (at + size) (drop size s) ≡ entered fs → Made left (nextEntry e n) (drop size s) fs) → Made (suc left) e s es
+    go q (numbered n size g f) ih = let w = was-after e _ es f in made-more h q g (w .2) (ih n size (w .0) (bytes-drop size s h) (w .1))
 
-count-only : {n size : ℕ} {t : Table} {s : List ℕ} → Bytes s → readNumber s ≡ Number n size → countFine n ≡ true → Made (n - 1) 0 (firstTable n) t (drop size s) → Good t × (blockOf t ≡ s)
-unfolding blockOf
-count-only {n} {size} {t} {s} h q g m =
-    let c : n ≡ t .count = m .agree .counts in
+-- a block of n entries is that of their table
+count-only : {n size : ℕ} {s : List ℕ} {es : List Entry} → Bytes s → readNumber s ≡ Number n size → countFine n ≡ true → Made (n - 1) firstEntry (drop size s) es → Good (tableOf es) × (blockOf (tableOf es) ≡ s)
+unfolding blockOf tableOf
+count-only {n} {size} {s} {es} h q g m =
     let b = count-fine n g in
-    let first = sym (m .agree .upto 0 (omega arith)) in
-    let later : (k : ℕ) → k + 1 < t .count → Later t k = λ k l. m .later k (omega arith) (omega arith) in
-    let right : Accepted t = record {
-      some-entry = omega arith;
-      few = omega arith;
-      month-zero = ap (λ e. e .0) first;
-      ten = ap (λ e. e .1) first;
-      rising = λ k l. later k l .rises;
-      inside = λ k l. later k l .early;
-      step = λ k l. later k l .step;
-      unused = λ k l i. let z = m .ends .zeros k (omega arith) in (ap (λ e. e .0) z, ap (λ e. e .1) z);
-    } in (
-      record { is-accepted = accepted-from t right; months-long = m .ends .months-long; offsets-long = m .ends .offsets-long },
-      ap₂ (λ x y. numberBytes x ++ y) (sym c) (ap (λ x. stepBytes t 0 (x - 1)) (sym c) ∙ m .bytes) ∙ sym (written-read 3 s n size h q .written),
+    let c : length es ≡ n = ap length (m .all) ∙ omega (arith, m .sized) in (
+      rw (m .all) (accepted-of (m .rest) (omega (arith, m .sized)) (m .follow)),
+      ap₂ (λ x y. numberBytes x ++ y) c (ap stepBytes (entries-of es ∙ m .all) ∙ m .bytes) ∙ sym (written-read 3 s n size h q .written),
     )
 
-found-is : (s : List ℕ) (t : Table) → Bytes s → readBlock s ≡ found t → Good t × (blockOf t ≡ s)
-unfolding readBlock
-found-is s t h e = go refl (was-number 0 countFine rest t (readNumber s) e)
+held-is : (s : List ℕ) (es : List Entry) → Bytes s → inBlock s ≡ entered es → Good (tableOf es) × (blockOf (tableOf es) ≡ s)
+unfolding inBlock
+held-is s es h e = go refl (was-number 0 countFine rest es (readNumber s) e)
   where
-    rest : ℕ → ℕ → BlockRead
-    rest n size = readEntries (n - 1) (firstTable n) 0 size (drop size s)
+    rest : ℕ → ℕ → Outcome
+    rest n size = readEntries (n - 1) firstEntry size (drop size s)
 
-    go : {r : NumberAnswer} → readNumber s ≡ r → Numbered countFine rest t r → Good t × (blockOf t ≡ s)
-    go q (numbered n size g e) = let b = count-fine n g in count-only h q g (entries-only (n - 1) 0 size (firstTable n) t (drop size s) (omega arith) (bytes-drop size s h) (ends-first n) e)
+    go : {r : NumberAnswer} → readNumber s ≡ r → Numbered countFine rest es r → Good (tableOf es) × (blockOf (tableOf es) ≡ s)
+    go q (numbered n size g e) = count-only h q g (entries-only (n - 1) firstEntry size (drop size s) es (bytes-drop size s h) e)
 
--- ---- in the scope's numbers
+-- ---- the promise
 
-success : (r : BlockRead) (t : Table) → blockResults r ≡ (0, 0, t) → r ≡ found t
-success r t e = go (r .answer) (r .table) e
-  where
-    go : (a : BlockAnswer) (u : Table) → blockResults (record { answer = a; table = u }) ≡ (0, 0, t) → record { answer = a; table = u } ≡ found t
-    go Read u e = ap found (ap (λ x. x .2) e)
-    go (Refused why at) u e = absurd (number-some why (ap (λ x. x .0) e))
-
-steps-bytes : (t : Table) (k n : ℕ) → Bytes (stepBytes t k n)
+steps-bytes : (es : List Entry) → Bytes (stepBytes es)
 unfolding stepBytes
-steps-bytes t k zero = λ i. lit< tt
-steps-bytes t k (suc n) = bytes-append (numberBytes (stepAfter t k)) (stepBytes t (k + 1) n) (bytes-groups 3 (stepAfter t k)) (steps-bytes t (k + 1) n)
+steps-bytes [] = λ i. lit< tt
+steps-bytes (e ∷ []) = λ i. lit< tt
+steps-bytes (e ∷ f ∷ es) = bytes-append (numberBytes (stepNumber e f)) (stepBytes (f ∷ es)) (bytes-groups 3 (stepNumber e f)) (steps-bytes (f ∷ es))
 
 block-bytes : (t : Table) → Bytes (blockOf t)
 unfolding blockOf
-block-bytes t = bytes-append (numberBytes (t .count)) (stepBytes t 0 (t .count - 1)) (bytes-groups 3 (t .count)) (steps-bytes t 0 (t .count - 1))
+block-bytes t = bytes-append (numberBytes (t .count)) (stepBytes (entries t)) (bytes-groups 3 (t .count)) (steps-bytes (entries t))
 
 block-gives : (t : Table) → Good t → Gives (blockOf t) t
-block-gives t g = ap blockResults (block-found t g)
+block-gives t g = ap (λ o. tableResults (tableRead o)) (block-back t g) ∙ ap (λ u. (0, 0, u)) (table-is g)
 
 given-is : (s : List ℕ) (t : Table) → Bytes s → Gives s t → Good t × (blockOf t ≡ s)
-given-is s t h e = found-is s t h (success (readBlock s) t e)
+given-is s t h e = let w = was-entered (inBlock s) t e in rw (w .2) at (held-is s (w .0) h (w .1))
 
 one-table : (t u : Table) → Good t → Good u → blockOf t ≡ blockOf u → t ≡ u
-one-table t u g h e = ap (λ (r : BlockRead). r .table) (sym (block-found t g) ∙ ap readBlock e ∙ block-found u h)
+one-table t u g h e = ap (λ r. r .2) (sym (block-gives t g) ∙ ap (λ s. tableResults (readBlock s)) e ∙ block-gives u h)
 
 one-block : (r s : List ℕ) (t : Table) → Bytes r → Bytes s → Gives r t → Gives s t → r ≡ s
 one-block r s t g h p q = sym (given-is r t g p .1) ∙ given-is s t h q .1
 
-written-back : (t : Table) (buffer : List ℕ) (n : ℕ) → Good t → written (tests t) (blockOf t) buffer ≡ Wrote n → Gives (take n (bufferAfter (tests t) (blockOf t) buffer)) t
+written-back : (t : Table) (buffer : List ℕ) (n : ℕ) → Good t → writtenResults (writeBlock t buffer) ≡ (0, n) → Gives (take n (writeBlockAfter t buffer)) t
 written-back t buffer n g e =
-    let order = roomLast (tests t) (blockOf t) buffer in
-    let w = was-passed NotWritten order (Wrote (length (blockOf t))) (Wrote n) (λ why q. let z : _≡_ {A = ℕ} 0 1 = cc in omega arith) e in
-    let size : n ≡ length (blockOf t) = let q = w .1 in cc in
-    rw (none-refused (λ why. buffer) order (over (blockOf t) buffer) (w .0), size, take-append-seam (blockOf t) (drop (length (blockOf t)) buffer)) (block-gives t g)
+    let w = wrote-over (tests t) (blockOf t) buffer n (wrote (writeBlock t buffer) n e) in
+    rw (w .1 .1, over-front (blockOf t) buffer (w .0)) (block-gives t g)
 
 pub one-to-one : OneToOne
-one-to-one = record { block-bytes = block-bytes; block-gives = block-gives; given-is = given-is; one-table = one-table; one-block = one-block; written-back = written-back }
+one-to-one = record {
+  table-to-block = λ t g. (block-bytes t, block-gives t g);
+  block-to-table = given-is;
+  one-table-a-block = one-table;
+  one-block-a-table = one-block;
+  reads-back = written-back;
+}

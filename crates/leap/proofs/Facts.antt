@@ -13,7 +13,7 @@ use Rattle.laws.specs.Tests.{eqZ}
 use Rattle.laws.proofs.Cases.{and-l, and-r, one-of, or-l, or-r, join, below, all-below, by-order}
 use Rattle.laws.proofs.Machine.{eqZ-true, eqZ-eq}
 use Rattle.leap.specs.declared.Table.{Table}
-use Rattle.leap.specs.Leap.{entryMonth, entryOffset, oneApart, laterRight, placeRight, accepted}
+use Rattle.leap.specs.Leap.{lastMonth, entryMonth, entryOffset, oneApart, laterRight, placeRight, accepted}
 use Rattle.leap.proofs.Places.{later-is, unused-is}
 
 pub record Accepted (t : Table) : Type 0 where
@@ -22,7 +22,7 @@ pub record Accepted (t : Table) : Type 0 where
   pub month-zero : entryMonth t 0 ≡ 0
   pub ten : entryOffset t 0 ≡ pos 10
   pub rising : (k : ℕ) → k + 1 < t .count → entryMonth t k < entryMonth t (k + 1)
-  pub inside : (k : ℕ) → k + 1 < t .count → entryMonth t (k + 1) ≤ 96335
+  pub inside : (k : ℕ) → k + 1 < t .count → entryMonth t (k + 1) ≤ lastMonth
   pub step : (k : ℕ) → k + 1 < t .count → (entryOffset t (k + 1) ≡ sucℤ (entryOffset t k)) ⊎ (entryOffset t k ≡ sucℤ (entryOffset t (k + 1)))
   pub unused : (k : ℕ) → t .count ≤ k → k < 64 → (entryMonth t k ≡ 0) × (entryOffset t k ≡ pos 0)
 
@@ -43,8 +43,8 @@ unfolding oneApart
 apart-from o o′ (inl q) = or-l (eqZ o (sucℤ o′)) (eqZ-eq q)
 apart-from o o′ (inr q) = or-r (eqZ o′ (sucℤ o)) (eqZ-eq q)
 
-later-to : (m : ℕ) (o : ℤ) (m′ : ℕ) (o′ : ℤ) → laterRight m o m′ o′ ≡ true → (m < m′) × ((m′ ≤ 96335) × ((o′ ≡ sucℤ o) ⊎ (o ≡ sucℤ o′)))
-later-to m o m′ o′ e = let h : (leb m′ 96335 && oneApart o o′) ≡ true = and-r (ltb m m′) _ e in (search (and-l, ltb-true), (search (and-l, leb-true), apart-to o o′ (and-r (leb m′ 96335) _ h)))
+later-to : (m : ℕ) (o : ℤ) (m′ : ℕ) (o′ : ℤ) → laterRight m o m′ o′ ≡ true → (m < m′) × ((m′ ≤ lastMonth) × ((o′ ≡ sucℤ o) ⊎ (o ≡ sucℤ o′)))
+later-to m o m′ o′ e = let h : (leb m′ lastMonth && oneApart o o′) ≡ true = and-r (ltb m m′) _ e in (search (and-l, ltb-true), (search (and-l, leb-true), apart-to o o′ (and-r (leb m′ lastMonth) _ h)))
 
 -- ---- a table
 
@@ -65,7 +65,7 @@ module _ (t : Table) where
       right : (k : ℕ) → k < 64 → placeRight t k ≡ true
       right = below (placeRight t) 64 (search (and-r))
 
-      later : (k : ℕ) → k + 1 < t .count → (entryMonth t k < entryMonth t (k + 1)) × ((entryMonth t (k + 1) ≤ 96335) × ((entryOffset t (k + 1) ≡ sucℤ (entryOffset t k)) ⊎ (entryOffset t k ≡ sucℤ (entryOffset t (k + 1)))))
+      later : (k : ℕ) → k + 1 < t .count → (entryMonth t k < entryMonth t (k + 1)) × ((entryMonth t (k + 1) ≤ lastMonth) × ((entryOffset t (k + 1) ≡ sucℤ (entryOffset t k)) ⊎ (entryOffset t k ≡ sucℤ (entryOffset t (k + 1)))))
       later k h = later-to (entryMonth t k) (entryOffset t k) (entryMonth t (k + 1)) (entryOffset t (k + 1)) (later-is t k h ∙ right (k + 1) (omega (arith, counted)))
 
   pub accepted-from : Accepted t → accepted t ≡ true

@@ -10,7 +10,7 @@ use Rattle.laws.proofs.Cases.{by-order}
 use Rattle.laws.proofs.Difference.{up, down, eq-to, suc-is}
 use Rattle.laws.proofs.Machine.{one-side}
 use Rattle.leap.specs.declared.Table.{Table}
-use Rattle.leap.specs.Leap.{entryMonth, entryOffset, epoch, lastBegun, top, offsetAt}
+use Rattle.leap.specs.Leap.{lastMonth, entryMonth, entryOffset, epoch, lastBegun, top, offsetAt}
 use Rattle.leap.proofs.Facts.{Accepted}
 use Rattle.leap.proofs.Begun.{begun-le, begun-all, begun-less, begun-first}
 
@@ -31,7 +31,7 @@ module _ (t : Table) (acc : Accepted t) where
 
   -- ---- from an entry to the next
 
-  rises : (k : ℕ) → suc k < t .count → (entryMonth t k < entryMonth t (suc k)) × (entryMonth t (suc k) ≤ 96335)
+  rises : (k : ℕ) → suc k < t .count → (entryMonth t k < entryMonth t (suc k)) × (entryMonth t (suc k) ≤ lastMonth)
   rises k h = (rw (add-one k) at (acc .rising k (omega arith)), rw (add-one k) at (acc .inside k (omega arith)))
 
   steps : (k : ℕ) → k + 1 < t .count → Near (entryOffset t k) (entryOffset t (k + 1))
@@ -60,24 +60,24 @@ module _ (t : Table) (acc : Accepted t) where
       (λ h. let e : begun (m + 1) last ≡ begun m last + 1 = omega arith in rw e (steps (begun m last) (omega (arith, begun-le (t .months) (m + 1) last, last-is))))
       (λ h. let e : begun (m + 1) last ≡ begun m last = omega arith in rw e (omega arith))
 
-  pub kept : (m : ℕ) → 119999 ≤ m → offsetAt t m ≡ entryOffset t (t .count - 1)
+  pub kept : (m : ℕ) → epoch + lastMonth ≤ m → offsetAt t m ≡ entryOffset t (t .count - 1)
   unfolding offsetAt last
   kept m h =
       let e : last ≡ t .count - 1 = omega (arith, last-is) in
       ap (entryOffset t) (begun-all (t .months) m last (omega (arith, inside last (omega (arith, last-is)))) ∙ e)
     where
       -- no entry's month is past December 9999
-      inside : (k : ℕ) → k < t .count → entryMonth t k ≤ 96335
+      inside : (k : ℕ) → k < t .count → entryMonth t k ≤ lastMonth
       inside zero l = omega (arith, acc .month-zero)
       inside (suc k) l = rises k l .1
 
   -- in January 1972 no entry but the first has begun
-  none-begun : (k : ℕ) → k < t .count → begun 23664 k ≡ 0
+  none-begun : (k : ℕ) → k < t .count → begun epoch k ≡ 0
   unfolding begun
-  none-begun zero h = begun-first (t .months) 23664 0 (omega arith)
-  none-begun (suc k) h = begun-less (t .months) 23664 k (omega (arith, rises k h)) ∙ none-begun k (omega arith)
+  none-begun zero h = begun-first (t .months) epoch 0 (omega arith)
+  none-begun (suc k) h = begun-less (t .months) epoch k (omega (arith, rises k h)) ∙ none-begun k (omega arith)
 
-  pub at-first : offsetAt t 23664 ≡ entryOffset t 0
+  pub at-first : offsetAt t epoch ≡ entryOffset t 0
   unfolding offsetAt last begun
   at-first = ap (entryOffset t) (none-begun last (omega (arith, last-is)))
 
