@@ -3,5 +3,5 @@ pub mod Numbers
 pub mod Steps
 pub mod Writing
 pub mod Reading
-pub mod OneToOne
-pub mod Worked
+pub mod Promise
+pub mod Desk

@@ -8,8 +8,6 @@ ghost use lib.IntN.{pos};
 ghost use lib.ListN.{length, take, drop};
 ghost use lib.Signed.{quotZ};
 ghost use Rattle.answer.specs.Buffers.{written, bufferAfter};
-ghost use Rattle.answer.specs.declared.Refusal.the-variants.{Shape as SHAPE};
-ghost use Rattle.block.specs.Reading.{refusedAt};
 ghost use Rattle.leap.specs.Leap.{accepted};
 ghost use Rattle.clock.specs.Promise.{admits};
 ghost use Rattle.lines.specs.Words.{before};
@@ -17,10 +15,10 @@ ghost use Rattle.lines.specs.Shown.{Placed};
 ghost use Rattle.listing.specs.Listing.{lineOf, blockLine, stampLine, countLine, refusalText, header, rowText, rows, fromCount, fromStamp, fromBlock, listed};
 use answer::Refusal;
 use answer::Written;
-use block::BlockAnswer;
-use block::BlockRead;
 use clock::TickAnswer;
 use leap::Table;
+use leap::TableAnswer;
+use leap::TableRead;
 use lines::Number;
 use stamp::InstantAnswer;
 use stamp::Label;
@@ -69,30 +67,17 @@ fn nth_line(s: &[u8], k: usize) -> Line
     Line { from, end }
 }
 
-fn no_block() -> BlockRead
-    ensures { λ r. ⌜ r ≡ refusedAt SHAPE 0 ⌝ }
-{
-    BlockRead {
-        answer: BlockAnswer::Refused(Refusal::Shape, 0),
-        table: Table {
-            count: 0,
-            months: [0; 64],
-            offsets: [0; 64],
-        },
-    }
-}
-
 // The first line: a block in hex.
-fn block_line(line: &[u8]) -> BlockRead
+fn block_line(line: &[u8]) -> TableRead
     ensures { λ r. ⌜ r ≡ blockLine (now (line .entry)) ⌝ }
 {
     if 1024 < line.len() {
-        return no_block();
+        return leap::refused_at(Refusal::Shape, 0);
     }
     let mut bytes = [0u8; 512];
     let h = lines::hex(line, &mut bytes);
     let Number::Is(n) = h else {
-        return no_block();
+        return leap::refused_at(Refusal::Shape, 0);
     };
     let k = lines::front(&bytes, n as usize);
     block::read_block(&bytes[..k])
@@ -217,8 +202,8 @@ fn print(a: &[u8], b: &[u8], c: &[u8], out: &mut [u8]) -> usize
     let read = block_line(a);
     let answer = read.answer;
     match answer {
-        BlockAnswer::Read => print_from_stamp(read.table, b, c, out),
-        BlockAnswer::Refused(why, _) => print_refusal(why, out),
+        TableAnswer::Read => print_from_stamp(read.table, b, c, out),
+        TableAnswer::Refused(why, _) => print_refusal(why, out),
     }
 }
 

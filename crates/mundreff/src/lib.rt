@@ -7,17 +7,19 @@ ghost use Rattle.stamp.specs.Labels.{fields};
 ghost use Rattle.stamp.specs.Instants.{instantAnswer, instantResults};
 ghost use Rattle.stamp.specs.Stamps.{stampAnswer};
 ghost use Rattle.clock.specs.Clock.{startAnswer, tickAnswer};
-ghost use Rattle.block.specs.Reading.{blockResults, readBlock};
+ghost use Rattle.leap.specs.Readers.{tableResults};
+ghost use Rattle.block.specs.Reading.{readBlock};
 ghost use Rattle.text.specs.Text.{textAnswer, writeAnswer, bufferThen};
 ghost use Rattle.julian.specs.Dates.{julianAnswer, dateAnswer};
 ghost use Rattle.mundreff.specs.Answers.{stampFields, stampNumbers, textNumbers, labelNumbers, pairNumbers};
-ghost use Rattle.mundreff.specs.Calls.{labelFrom, scaleFrom, readingFrom, pair, blockWritten, blockAfter};
+ghost use Rattle.block.specs.Blocks.{writeBlock, writeBlockAfter};
+ghost use Rattle.mundreff.specs.Calls.{labelFrom, scaleFrom, readingFrom, pair};
 use answer::Written;
-use block::BlockAnswer;
 use clock::TickAnswer;
 use julian::JulianAnswer;
 use julian::JulianDate;
 use leap::Table;
+use leap::TableAnswer;
 use stamp::InstantAnswer;
 use stamp::Label;
 use stamp::Reading;
@@ -31,13 +33,7 @@ use text::TextAnswer;
 fn table_of<'a>(count: usize, months: &'a [u32; 64], offsets: &'a [i32; 64]) -> Table
     ensures { λ r. ⌜ r ≡ tabled count (now (months .entry)) (now (offsets .entry)) ⌝ }
 {
-    let m = *months;
-    let o = *offsets;
-    Table {
-        count,
-        months: m,
-        offsets: o,
-    }
+    leap::tabled(count, months, offsets)
 }
 
 fn label_of(numbers: &[u32; 6]) -> Label
@@ -234,18 +230,18 @@ pub extern "C" fn mundreff_read_block<'a>(
     months: &'a mut [u32; 64],
     offsets: &'a mut [i32; 64],
 ) -> u32
-    ensures { λ r. ⌜ (r, now (place .exit), tabled (now (count .exit)) (now (months .exit)) (now (offsets .exit))) ≡ blockResults (readBlock (now (block .entry))) ⌝ }
+    ensures { λ r. ⌜ (r, now (place .exit), tabled (now (count .exit)) (now (months .exit)) (now (offsets .exit))) ≡ tableResults (readBlock (now (block .entry))) ⌝ }
 {
     let found = block::read_block(block);
     let table = found.table;
     store_table(table, count, months, offsets);
     let a = found.answer;
     match a {
-        BlockAnswer::Read => {
+        TableAnswer::Read => {
             *place = 0;
             0
         }
-        BlockAnswer::Refused(why, at) => {
+        TableAnswer::Refused(why, at) => {
             *place = at;
             answer::number_of(why)
         }
@@ -260,8 +256,8 @@ pub extern "C" fn mundreff_write_block<'a>(
     out: &mut [u8],
     length: &mut usize,
 ) -> u32
-    ensures { λ r. ⌜ (r, now (length .exit)) ≡ writtenResults (blockWritten (tabled count (now (months .entry)) (now (offsets .entry))) (now (out .entry))) ⌝ }
-    ensures { λ _. ⌜ now (out .exit) ≡ blockAfter (tabled count (now (months .entry)) (now (offsets .entry))) (now (out .entry)) ⌝ }
+    ensures { λ r. ⌜ (r, now (length .exit)) ≡ writtenResults (writeBlock (tabled count (now (months .entry)) (now (offsets .entry))) (now (out .entry))) ⌝ }
+    ensures { λ _. ⌜ now (out .exit) ≡ writeBlockAfter (tabled count (now (months .entry)) (now (offsets .entry))) (now (out .entry)) ⌝ }
 {
     let a = block::write_block(table_of(count, months, offsets), out);
     give_length(a, length)

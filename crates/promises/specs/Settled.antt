@@ -7,7 +7,7 @@ use Prim.Native.Nat.{ℕ}
 use lib.IntN.{ℤ}
 use lib.Ieee.{Float}
 use Rattle.answer.specs.declared.Written.{Written}
-use Rattle.answer.specs.Buffers.{written, bufferAfter, writtenResults}
+use Rattle.answer.specs.Buffers.{writtenResults}
 use Rattle.leap.specs.declared.Table.{Table}
 use Rattle.leap.specs.Leap.{bulletinC}
 use Rattle.stamp.specs.declared.Label.{Label}
@@ -18,17 +18,17 @@ use Rattle.stamp.specs.Instants.{instantAnswer, instantResults}
 use Rattle.stamp.specs.Stamps.{stampAnswer}
 use Rattle.clock.specs.declared.TickAnswer.{TickAnswer}
 use Rattle.clock.specs.Clock.{startAnswer, tickAnswer}
-use Rattle.block.specs.declared.BlockRead.{BlockRead}
-use Rattle.block.specs.Blocks.{blockOf}
-use Rattle.block.specs.Reading.{blockResults, readBlock}
-use Rattle.block.specs.Promise.{tests}
+use Rattle.leap.specs.declared.TableRead.{TableRead}
+use Rattle.block.specs.Blocks.{writeBlock, writeBlockAfter}
+use Rattle.leap.specs.Readers.{tableResults}
+use Rattle.block.specs.Reading.{readBlock}
 use Rattle.text.specs.declared.TextAnswer.{TextAnswer}
 use Rattle.text.specs.Text.{textAnswer, writeAnswer, bufferThen}
 use Rattle.julian.specs.declared.JulianAnswer.{JulianAnswer}
 use Rattle.julian.specs.declared.JulianDate.{JulianDate}
 use Rattle.julian.specs.Dates.{julianAnswer, dateAnswer}
 use Rattle.mundreff.specs.Answers.{stampNumbers, textNumbers, labelNumbers, pairNumbers}
-use Rattle.mundreff.specs.Calls.{labelFrom, scaleFrom, readingFrom, pair, blockWritten, blockAfter}
+use Rattle.mundreff.specs.Calls.{labelFrom, scaleFrom, readingFrom, pair}
 
 -- at most one value is allowed
 abbrev pub AtMostOne : {A : Type 0} → (A → Type 0) → Type 0
@@ -43,8 +43,8 @@ abbrev pub WroteInC : Type 0
 WroteInC = (ℕ × ℕ) × List ℕ
 
 pub record Settled : Type 0 where
-  pub read-block : (block : List ℕ) → AtMostOne (λ (r : BlockRead). r ≡ readBlock block)
-  pub write-block : (t : Table) (buffer : List ℕ) → AtMostOne (λ (r : Wrote). (r .0 ≡ written (tests t) (blockOf t) buffer) × (r .1 ≡ bufferAfter (tests t) (blockOf t) buffer))
+  pub read-block : (block : List ℕ) → AtMostOne (λ (r : TableRead). r ≡ readBlock block)
+  pub write-block : (t : Table) (buffer : List ℕ) → AtMostOne (λ (r : Wrote). (r .0 ≡ writeBlock t buffer) × (r .1 ≡ writeBlockAfter t buffer))
   pub instant-of : (t : Table) (scale : ℕ) (r : Reading) → AtMostOne (λ (a : InstantAnswer). a ≡ instantAnswer t scale r)
   pub stamp-of : (t : Table) (instant : ℤ) (scale : ℕ) → AtMostOne (λ (a : StampAnswer). a ≡ stampAnswer t instant scale)
   pub read-text : (t : Table) (scale : ℕ) (text : List ℕ) → AtMostOne (λ (a : TextAnswer). a ≡ textAnswer t scale text)
@@ -58,8 +58,8 @@ pub record Settled : Type 0 where
 -- the calls of the C interface: the number that each returns, and everything that it writes
 pub record SettledInC : Type 0 where
   pub bulletin-c : AtMostOne (λ (r : ℕ × Table). (r .0 ≡ 0) × (r .1 ≡ bulletinC))
-  pub read-block : (block : List ℕ) → AtMostOne (λ (r : ℕ × ℕ × Table). r ≡ blockResults (readBlock block))
-  pub write-block : (t : Table) (buffer : List ℕ) → AtMostOne (λ (r : WroteInC). (r .0 ≡ writtenResults (blockWritten t buffer)) × (r .1 ≡ blockAfter t buffer))
+  pub read-block : (block : List ℕ) → AtMostOne (λ (r : ℕ × ℕ × Table). r ≡ tableResults (readBlock block))
+  pub write-block : (t : Table) (buffer : List ℕ) → AtMostOne (λ (r : WroteInC). (r .0 ≡ writtenResults (writeBlock t buffer)) × (r .1 ≡ writeBlockAfter t buffer))
   pub instant-of : (t : Table) (stamp : List ℕ) → AtMostOne (λ (r : ℕ × ℤ). r ≡ instantResults (instantAnswer t (scaleFrom stamp) (readingFrom stamp)))
   pub stamp-of : (t : Table) (instant : ℤ) (scale : ℕ) → AtMostOne (λ (r : ℕ × List ℕ). r ≡ stampNumbers (stampAnswer t instant scale))
   pub read-text : (t : Table) (scale : ℕ) (text : List ℕ) → AtMostOne (λ (r : ℕ × ℤ × List ℕ). r ≡ textNumbers (textAnswer t scale text))
