@@ -17,8 +17,8 @@ use Rattle.leap.specs.declared.Table.{Table}
 use Rattle.leap.specs.Leap.{lastMonth}
 use Rattle.leap.specs.Entries.{Entry, firstEntry, entriesFrom, entries, tableOf, Good}
 use Rattle.leap.specs.Readers.{tableResults, Outcome, entered, fault, after, tableRead}
-use Rattle.leap.proofs.Facts.{accepted-to}
-use Rattle.leap.proofs.Entries.{same-entry, Later, Follow, from-long, entries-of, table-is, accepted-entries, accepted-of}
+use Rattle.leap.proofs.Facts.{Later, same-entry, accepted-to}
+use Rattle.leap.proofs.Entries.{Follow, from-long, entries-of, table-is, accepted-entries, accepted-of}
 use Rattle.leap.proofs.Readers.{was-entered}
 use Rattle.block.specs.declared.NumberAnswer.{NumberAnswer}
 use Rattle.block.specs.declared.NumberAnswer.the-variants.{Number, Cut, Groups}
@@ -29,7 +29,7 @@ use Rattle.block.specs.Promise.{Bytes, Gives, OneToOne}
 use Rattle.block.proofs.Numbers.{read-written, written-read, bytes-append, bytes-groups}
 use Rattle.block.proofs.Steps.{bit, bit-small, next-bit, next-back, next-apart}
 use Rattle.block.proofs.Reading.{count-fine, gap-fine}
-use Rattle.block.proofs.Writing.{step-small}
+use Rattle.block.proofs.Blocks.{step-small}
 
 -- ---- what is written is read back
 

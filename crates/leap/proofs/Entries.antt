@@ -1,23 +1,19 @@
 -- The entries of a table one by one, a table made entry by entry, and what is accepted in terms of them.
 -- Assumes nothing.
-use mathlib.Core.Path.{_≡_, refl, sym, ap, ap₂, subst, _∙_}
-use mathlib.Core.Logic.{_⊎_}
+use mathlib.Core.Path.{_≡_, refl, sym, ap, subst, _∙_}
 use mathlib.Core.List.{List, [], _∷_, _++_, map, map-append}
 use Prim.Native.Nat.{ℕ, zero, suc, _+_, _-_, _≤_, _<_}
 use native.Mathlib.Numerals.{add-one}
 use native.Mathlib.Omega.{arith}
-use lib.IntN.{ℤ, pos, sucℤ}
+use lib.IntN.{ℤ, pos}
 use lib.ListN.{length, getD, set, replicate, length-append, length-replicate, length-map, List·getD-append, List·getD-eq-default, List·getD-map}
 use lib.Seq.{set-at, getD-append-add, ext-getD, append-snoc}
 use Rattle.laws.proofs.Cases.{by-order}
 use Rattle.laws.proofs.Placed.{replicate-same}
 use Rattle.leap.specs.declared.Table.{Table}
-use Rattle.leap.specs.Leap.{tabled, lastMonth, padded}
+use Rattle.leap.specs.Leap.{tabled, padded}
 use Rattle.leap.specs.Entries.{Entry, firstEntry, noEntry, entry, entriesFrom, entries, tableOf, Good}
-use Rattle.leap.proofs.Facts.{Accepted, accepted-to, accepted-from}
-
-pub same-entry : {m m′ : ℕ} {o o′ : ℤ} → m ≡ m′ → o ≡ o′ → _≡_ {A = Entry} (m, o) (m′, o′)
-same-entry p q = ap₂ (λ m o. (m, o)) p q
+use Rattle.leap.proofs.Facts.{Later, Accepted, same-entry, accepted-to, accepted-from}
 
 -- ---- the places of a list
 
@@ -111,12 +107,6 @@ entries-of es =
 
 -- ---- what is accepted
 
--- entry f may come next after entry e
-pub record Later (e f : Entry) : Type 0 where
-  pub rises : e .0 < f .0
-  pub early : f .0 ≤ lastMonth
-  pub step : (f .1 ≡ sucℤ (e .1)) ⊎ (e .1 ≡ sucℤ (f .1))
-
 -- these may come after entry e, one after another
 abbrev pub Follow : Entry → List Entry → Type 0
 Follow e [] = Unit {0}
@@ -128,27 +118,24 @@ follow-at e (f ∷ es) h zero l = h .0
 follow-at e (f ∷ es) h (suc k) l = follow-at f es (h .1) k (omega arith)
 
 module _ {t : Table} (a : Accepted t) where
-  pub later : (k : ℕ) → k + 1 < t .count → Later (entry t k) (entry t (k + 1))
-  later k l = record { rises = a .rising k l; early = a .inside k l; step = a .step k l }
-
   follows : (k n : ℕ) → k + n < t .count → Follow (entry t k) (entriesFrom t (k + 1) n)
   unfolding entriesFrom
   follows k zero l = tt
-  follows k (suc n) l = (later k (omega arith), follows (k + 1) n (omega arith))
+  follows k (suc n) l = (a .later k (omega arith), follows (k + 1) n (omega arith))
 
   -- after the first entry, those that may come after it
   pub accepted-entries : (entries t ≡ firstEntry ∷ entriesFrom t 1 (t .count - 1)) × Follow firstEntry (entriesFrom t 1 (t .count - 1))
   unfolding entriesFrom
   accepted-entries =
       let n : t .count ≡ suc (t .count - 1) = omega (arith, a .some-entry) in
-      let e : entry t 0 ≡ firstEntry = same-entry (a .month-zero) (a .ten) in
+      let e = a .first in
       (ap (entriesFrom t 0) n ∙ ap (λ x. x ∷ entriesFrom t 1 (t .count - 1)) e, subst (λ x. Follow x (entriesFrom t 1 (t .count - 1))) e (follows 0 (t .count - 1) (omega (arith, a .some-entry))))
 
   -- the places past its entries have noEntry
   places-at : (k : ℕ) → k < 64 → getD (entries t) k noEntry ≡ entry t k
   places-at k m =
       by-order k (t .count) (entries-at t k)
-      (λ l. let z = a .unused k l m in List·getD-eq-default (entries t) noEntry (omega (arith, entries-long t)) ∙ sym (same-entry (z .0) (z .1)))
+      (λ l. List·getD-eq-default (entries t) noEntry (omega (arith, entries-long t)) ∙ sym (a .unused k l m))
 
 -- a table is that of its entries
 pub table-is : {t : Table} → Good t → tableOf (entries t) ≡ t
@@ -175,12 +162,9 @@ accepted-of es l h =
       is-accepted = accepted-from t (record {
         some-entry = omega arith;
         few = omega arith;
-        month-zero = ap (λ e. e .0) (at 0);
-        ten = ap (λ e. e .1) (at 0);
-        rising = λ k m. next k m .rises;
-        inside = λ k m. next k m .early;
-        step = λ k m. next k m .step;
-        unused = λ k m n. (ap (λ e. e .0) (unused k m), ap (λ e. e .1) (unused k m));
+        first = at 0;
+        later = next;
+        unused = λ k m n. unused k m;
       });
       months-long = long .0;
       offsets-long = long .1;

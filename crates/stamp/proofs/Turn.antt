@@ -32,7 +32,7 @@ steps t acc Tdt = steps-uniform
 steps t acc Gps = steps-uniform
 
 pub first-offset : (t : Table) → Accepted t → (s : Scale) → firstOffset s ≡ offsetsOf t s 23664
-first-offset t acc Utc = sym (at-first t acc ∙ acc .ten)
+first-offset t acc Utc = sym (at-first t acc)
 first-offset t acc Tai = refl
 first-offset t acc Tdt = refl
 first-offset t acc Gps = refl

@@ -12,7 +12,7 @@ use Rattle.laws.proofs.Machine.{read2}
 use Rattle.leap.specs.Leap.{tabled}
 use Rattle.leap.proofs.Facts.{accepted-to}
 use Rattle.block.proofs.Numbers.{number-size}
-use Rattle.block.proofs.Writing.{stepAfter, Stored, stored-first, stored-last, stored-small, stored-more}
+use Rattle.block.proofs.Blocks.{stepAfter, Stored, stored-first, stored-last, stored-small, stored-more}
 use Rattle.block.specs.Blocks.{stepNumber}
 use Rattle.block.proofs.block_of.Statement.{statement}
 use Rattle.block.proofs.block_of.Tie as tie
@@ -73,7 +73,7 @@ block-of-spec =
     let p = c .before .before .before .before .before in
     let a = p .loop .inv .right in
     let k = c .before .before .before .before .loop-test .taken in
-    (omega (arith, a .rising (p .loop .k) k), a .inside (p .loop .k) k))
+    let l = a .later (p .loop .k) k in (omega (arith, l .rises), l .early))
     -- slice-aggregate-write-number-2
     (λ c. sym (c .before .before .before .before .before .before .before .loop .inv .long))
     -- write-number-requires-2

@@ -17,6 +17,16 @@ module _ (c : tie.After-count) where
   number : readNumber (now (c .before .before .before .before .args .s)) ≡ Number (c .count .given .0 .0) (c .count .given .0 .1 .0)
   number = sym (c .before .before .read-number .ensures) ∙ c .count .given .1
 
+returns : tie.Need-returns
+returns c =
+    c .refused-at .ensures ∙ ap tableRead (count-fault _ (number (c .before .before .before .before)) (fails (c .before .before .count-fine .ensures) (c .before .if1 .taken)))
+
+read-entries-requires : tie.Need-read-entries-requires
+read-entries-requires c κs =
+    let n = c .before .before .before in
+    let f = count-fine _ (holds (c .before .count-fine .ensures) (c .if1 .left)) in
+    (read-within 3 _ _ _ (number n) .inside, f .0, f .1)
+
 pub read-block-spec : {M : Type 1} → statement M
 read-block-spec =
     tie.close
@@ -30,14 +40,11 @@ read-block-spec =
     -- refused-at-requires
     (λ c κs. search needs)
     -- returns
-    (λ c. c .refused-at .ensures ∙ ap tableRead (count-fault _ (number (c .before .before .before .before)) (fails (c .before .before .count-fine .ensures) (c .before .if1 .taken))))
+    returns
     -- cast-read-entries
     (λ c. search needs)
     -- read-entries-requires
-    (λ c κs.
-    let n = c .before .before .before in
-    let f = count-fine _ (holds (c .before .count-fine .ensures) (c .if1 .left)) in
-    (read-within 3 _ _ _ (number n) .inside, f .0, f .1))
+    read-entries-requires
     -- enum-told
     (λ c. search needs)
     -- refused-at-requires-2

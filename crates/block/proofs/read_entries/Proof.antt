@@ -61,6 +61,14 @@ module _ (c : tie.After-n Inv-loop μ-loop) where
   there : toZ w32 (ofZ w32 before) ≡ before
   there = toZ-ofZ (record { sfits = omega (arith, small) })
 
+returns-2 : tie.Need-returns-2 Inv-loop μ-loop
+returns-2 c =
+    let p = c .before .before .before .before .before in c .refused-at2 .ensures ∙ ap tableRead (on-answer (p .loop .inv) (c .before .before .before .before .loop-test .taken) (sym (c .before .before .before .read-number .ensures) ∙ c .before .enum-told .given .1))
+
+returns-4 : tie.Need-returns-4 Inv-loop μ-loop
+returns-4 c =
+    c .refused-at4 .ensures ∙ ap tableRead (on-tail (c .before .before .before .loop .inv) (c .before .before .loop-test .left) (c .before .if2 .taken))
+
 pub read-entries-spec : {M : Type 1} → statement M
 read-entries-spec =
     tie.close
@@ -120,7 +128,7 @@ read-entries-spec =
     -- refused-at-requires-2
     (λ c κs. tt)
     -- returns-2
-    (λ c. let p = c .before .before .before .before .before in c .refused-at2 .ensures ∙ ap tableRead (on-answer (p .loop .inv) (c .before .before .before .before .loop-test .taken) (sym (c .before .before .before .read-number .ensures) ∙ c .before .enum-told .given .1)))
+    returns-2
     -- enum-told-2
     (λ c. search needs)
     -- refused-at-requires-3
@@ -130,7 +138,7 @@ read-entries-spec =
     -- refused-at-requires-4
     (λ c κs. tt)
     -- returns-4
-    (λ c. c .refused-at4 .ensures ∙ ap tableRead (on-tail (c .before .before .before .loop .inv) (c .before .before .loop-test .left) (c .before .if2 .taken)))
+    returns-4
     -- found-requires
     (λ c κs. tt)
     -- returns-5

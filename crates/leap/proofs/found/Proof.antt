@@ -6,5 +6,8 @@ use Rattle.leap.specs.Readers.{found}
 use Rattle.leap.proofs.found.Statement.{statement}
 use Rattle.leap.proofs.found.Tie as tie
 
+returns : tie.Need-returns
+returns c = ap found (c .tabled .ensures)
+
 pub found-spec : {M : Type 1} → statement M
-found-spec = tie.close (tie.spec (λ c κs. search needs) (λ c. ap found (c .tabled .ensures)))
+found-spec = tie.close (tie.spec (λ c κs. search needs) returns)

@@ -8,8 +8,7 @@ use lib.ListN.{length, take}
 use lib.Seq.{sets, length-sets}
 use Rattle.leap.specs.declared.Table.{Table}
 use Rattle.leap.specs.Entries.{Entry, entry, entriesFrom}
-use Rattle.leap.proofs.Facts.{Accepted}
-use Rattle.leap.proofs.Entries.{Later, later}
+use Rattle.leap.proofs.Facts.{Later, Accepted}
 use Rattle.block.specs.Numbers.{numberBytes}
 use Rattle.block.specs.Blocks.{stepNumber, stepBytes, blockOf}
 use Rattle.block.proofs.Numbers.{number-size}
@@ -64,7 +63,7 @@ module _ {t : Table} {bytes : List ℕ} {len k : ℕ} (h : Stored t bytes len k)
 
   module _ (l : k + 1 < t .count) {n : ℕ} (e : n ≡ stepAfter t k) where
     pub stored-small : (n < 128 ^ 3) × (len + length (numberBytes n) ≤ length bytes)
-    stored-small = (rw e (step-small (later (h .right) k l)), omega (arith, number-size n, h .right .few, h .long, h .short))
+    stored-small = (rw e (step-small (h .right .later k l)), omega (arith, number-size n, h .right .few, h .long, h .short))
 
     pub stored-more : {r : ℕ} {next : List ℕ} → r ≡ len + length (numberBytes n) → next ≡ sets bytes len (numberBytes n) → Stored t next r (k + 1)
     stored-more {r} {next} er en = record {
