@@ -1,6 +1,6 @@
 -- What any writer leaves in its buffer: after a refusal every byte, after a success the bytes in front and its own past them.
 -- Assumes nothing.
-use mathlib.Core.Path.{_≡_, refl}
+use mathlib.Core.Path.{_≡_, refl, ap}
 use mathlib.Core.Bool.{Bool, true, false, cond}
 use mathlib.Core.List.{List, [], _∷_, _++_}
 use Prim.Native.Nat.{ℕ, _≤_}
@@ -12,10 +12,16 @@ use Rattle.laws.specs.Placed.{over}
 use Rattle.laws.proofs.Cases.{both}
 use Rattle.answer.specs.declared.Refusal.{Refusal}
 use Rattle.answer.specs.declared.Refusal.the-variants.{Room as ROOM}
+use Rattle.answer.specs.declared.Written.{Written}
 use Rattle.answer.specs.declared.Written.the-variants.{Wrote, Refused}
 use Rattle.answer.specs.Refusals.{refusing, allPass}
-use Rattle.answer.specs.Buffers.{roomLast, written, bufferAfter}
-use Rattle.answer.proofs.Orders.{none-refused, was-passed}
+use Rattle.answer.specs.Buffers.{roomLast, written, bufferAfter, writtenResults}
+use Rattle.answer.proofs.Orders.{none-refused, was-passed, number-some}
+
+-- a success in the scope's numbers
+pub wrote : (a : Written) (n : ℕ) → writtenResults a ≡ (0, n) → a ≡ Wrote n
+wrote (Wrote m) n e = ap (λ v. Wrote (v .1)) e
+wrote (Refused why) n e = absurd (number-some why (ap (λ v. v .0) e))
 
 keeps : {A : Type 0} (tests : List (Bool × Refusal)) (n : ℕ) (new old : A) (why : Refusal) → refusing Refused tests (Wrote n) ≡ Refused why → refusing (λ r. old) tests new ≡ old
 keeps [] n new old why e = let z : _≡_ {A = ℕ} 0 1 = cc in absurd (omega arith)

@@ -1,9 +1,7 @@
 pub mod Masks
 pub mod Numbers
 pub mod Steps
-pub mod Writing
+pub mod Blocks
 pub mod Reading
-pub mod Entries
-pub mod OneToOne
-pub mod Worked
-pub mod Zeros
+pub mod Promise
+pub mod Desk

@@ -1,26 +1,38 @@
 -- The block of a table: the count of entries, then a number for each entry after the first. Nothing follows.
 -- Assumes nothing.
-use Prim.Native.Nat.{ℕ, zero, suc, _+_, _-_, _*_}
-use mathlib.Core.List.{List, [], _++_}
-use mathlib.Core.Bool.{cond}
-use lib.IntN.{ℤ}
+use Prim.Native.Nat.{ℕ, _+_, _-_, _*_}
+use mathlib.Core.List.{List, [], _∷_, _++_}
+use mathlib.Core.Bool.{Bool, cond}
 use lib.Signed.{ltZ}
+use Rattle.answer.specs.declared.Refusal.{Refusal}
+use Rattle.answer.specs.declared.Refusal.the-variants.{Table as TABLE}
+use Rattle.answer.specs.declared.Written.{Written}
+use Rattle.answer.specs.Buffers.{written, bufferAfter}
 use Rattle.leap.specs.declared.Table.{Table}
-use Rattle.leap.specs.Leap.{entryMonth, entryOffset}
+use Rattle.leap.specs.Leap.{accepted}
+use Rattle.leap.specs.Entries.{Entry, entries}
 use Rattle.block.specs.Numbers.{numberBytes}
 
 -- twice the months since the entry before, plus 1 where the step is -1
-abbrev pub stepNumber : ℕ → ℤ → ℕ → ℤ → ℕ
-stepNumber month offset month′ offset′ = (month′ - month) * 2 + cond (ltZ offset′ offset) 1 0
+abbrev pub stepNumber : Entry → Entry → ℕ
+stepNumber e f = (f .0 - e .0) * 2 + cond (ltZ (f .1) (e .1)) 1 0
 
--- the number of the entry after entry k
-abbrev pub stepAfter : Table → ℕ → ℕ
-stepAfter t k = stepNumber (entryMonth t k) (entryOffset t k) (entryMonth t (k + 1)) (entryOffset t (k + 1))
-
--- the numbers of the n entries after entry k
-unfoldable pub stepBytes : Table → ℕ → ℕ → List ℕ
-stepBytes t k zero = []
-stepBytes t k (suc n) = numberBytes (stepAfter t k) ++ stepBytes t (k + 1) n
+-- the numbers of the entries after the first of these
+unfoldable pub stepBytes : List Entry → List ℕ
+stepBytes [] = []
+stepBytes (e ∷ []) = []
+stepBytes (e ∷ f ∷ es) = numberBytes (stepNumber e f) ++ stepBytes (f ∷ es)
 
 unfoldable pub blockOf : Table → List ℕ
-blockOf t = numberBytes (t .count) ++ stepBytes t 0 (t .count - 1)
+blockOf t = numberBytes (t .count) ++ stepBytes (entries t)
+
+-- ---- writing it: the order of refusals, the answer, and the buffer afterwards
+
+abbrev pub tests : Table → List (Bool × Refusal)
+tests t = (accepted t, TABLE) ∷ []
+
+abbrev pub writeBlock : Table → List ℕ → Written
+writeBlock t buffer = written (tests t) (blockOf t) buffer
+
+abbrev pub writeBlockAfter : Table → List ℕ → List ℕ
+writeBlockAfter t buffer = bufferAfter (tests t) (blockOf t) buffer

@@ -7,9 +7,10 @@ use lib.IntN.{pos}
 use lib.ListN.{length}
 use Rattle.leap.specs.declared.Table.{Table}
 use Rattle.leap.specs.Desk.{T, N}
-use Rattle.leap.specs.Leap.{rising, filled, bulletinC}
+use Rattle.leap.specs.Leap.{lastMonth, rising, filled, bulletinC}
 use Rattle.block.specs.Blocks.{blockOf}
-use Rattle.block.specs.Reading.{zeroTable, blockResults, readBlock}
+use Rattle.leap.specs.Readers.{noTable, tableResults}
+use Rattle.block.specs.Reading.{readBlock}
 
 abbrev pub B : List ℕ
 B =
@@ -42,7 +43,7 @@ abbrev pub edges : List Row
 edges =
     -- one entry; the last month, and the one past it; a number of 0
     gives (0x01 ∷ []) (filled (0 ∷ []) (pos 10 ∷ []))
-    ∷ gives (0x02 ∷ 0x9E ∷ 0xE1 ∷ 0x0B ∷ []) (filled (0 ∷ 96335 ∷ []) (rising 2 10))
+    ∷ gives (0x02 ∷ 0x9E ∷ 0xE1 ∷ 0x0B ∷ []) (filled (0 ∷ lastMonth ∷ []) (rising 2 10))
     ∷ refuses (0x02 ∷ 0xA0 ∷ 0xE1 ∷ 0x0B ∷ []) 11 1
     ∷ refuses (0x02 ∷ 0x00 ∷ []) 11 1
     -- a missing number's place is the block's length; three marked bytes are GROUPS, two and the end CUT
@@ -56,8 +57,8 @@ edges =
 
 abbrev pub Right : Row → Type 0
 Right (takes t n) = length (blockOf t) ≡ n
-Right (gives s t) = (blockOf t ≡ s) × (blockResults (readBlock s) ≡ (0, 0, t))
-Right (refuses s number place) = blockResults (readBlock s) ≡ (number, place, zeroTable)
+Right (gives s t) = (blockOf t ≡ s) × (tableResults (readBlock s) ≡ (0, 0, t))
+Right (refuses s number place) = tableResults (readBlock s) ≡ (number, place, noTable)
 
 abbrev pub AllRight : List Row → Type 0
 AllRight [] = Unit {0}

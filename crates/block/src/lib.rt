@@ -2,35 +2,21 @@
 // Its numbers are groups of seven bits, lowest group first, one group to a byte; the top bit marks that more follow.
 ghost use mathlib.Core.Path.{_≡_};
 ghost use mathlib.Core.Bool.{true};
-ghost use mathlib.Core.List.{[], _∷_};
 ghost use Prim.Native.Nat.{_+_, _-_, _<_, _≤_, _^_, _%_};
 ghost use lib.Dec.{ltb};
 ghost use lib.ListN.{length, take, drop};
 ghost use lib.Seq.{sets};
 ghost use lib.Signed.{mag};
-ghost use Rattle.answer.specs.declared.Refusal.the-variants.{Table as TABLE};
-ghost use Rattle.answer.specs.Buffers.{written, bufferAfter};
-ghost use Rattle.leap.specs.Leap.{tabled, accepted};
+ghost use Rattle.leap.specs.Leap.{lastMonth, tabled, accepted};
+ghost use Rattle.leap.specs.Entries.{firstEntry};
+ghost use Rattle.leap.specs.Readers.{tableRead};
 ghost use Rattle.block.specs.Numbers.{numberBytes, readGroups, readNumber};
-ghost use Rattle.block.specs.Blocks.{stepNumber, blockOf};
-ghost use Rattle.block.specs.Reading.{nextOffset, countFine, gapFine, firstTable, refusedAt, readEntries, readBlock};
+ghost use Rattle.block.specs.Blocks.{stepNumber, blockOf, writeBlock, writeBlockAfter};
+ghost use Rattle.block.specs.Reading.{nextOffset, countFine, gapFine, readEntries, readBlock};
 use answer::Refusal;
 use answer::Written;
 use leap::Table;
-
-// December 9999, counted from January 1972.
-const LAST_MONTH: u32 = 96335;
-
-pub enum BlockAnswer {
-    Read,
-    Refused(Refusal, usize),
-}
-
-// The table is all zero on a refusal.
-pub struct BlockRead {
-    pub answer: BlockAnswer,
-    pub table: Table,
-}
+use leap::TableRead;
 
 // A number and how many bytes it has, or why there is none.
 enum NumberAnswer {
@@ -109,19 +95,6 @@ fn write_number(n: u32, out: &mut [u8], at: usize) -> usize
 
 // ---- reading
 
-// A refusal, with an all-zero table.
-fn refused(why: Refusal, at: usize) -> BlockRead
-    ensures { λ r. ⌜ r ≡ refusedAt why at ⌝ }
-{
-    let answer = BlockAnswer::Refused(why, at);
-    let table = Table {
-        count: 0,
-        months: [0; 64],
-        offsets: [0; 64],
-    };
-    BlockRead { answer, table }
-}
-
 // A count of 1 to 64.
 fn count_fine(n: u32) -> bool
     ensures { λ r. ⌜ r ≡ countFine n ⌝ }
@@ -131,11 +104,11 @@ fn count_fine(n: u32) -> bool
 
 // A gap of at least a month, and no month past December 9999.
 fn gap_fine(before: u32, n: u32) -> bool
-    requires { ⌜ (before ≤ 96335) × (n < 128 ^ 3) ⌝ }
+    requires { ⌜ (before ≤ lastMonth) × (n < 128 ^ 3) ⌝ }
     ensures { λ r. ⌜ r ≡ gapFine before n ⌝ }
 {
     let gap = n / 2;
-    (0 < gap) & (before + gap <= LAST_MONTH)
+    (0 < gap) & (before + gap <= leap::LAST_MONTH)
 }
 
 // The offset after `before`, by the number's lowest bit.
@@ -147,9 +120,9 @@ fn next_offset(before: i32, n: u32) -> i32
 }
 
 // A table of `count` entries: those after the first are read from place `start` on.
-fn read_entries(s: &[u8], count: usize, start: usize) -> BlockRead
+fn read_entries(s: &[u8], count: usize, start: usize) -> TableRead
     requires { ⌜ (start ≤ length (now s)) × (0 < count) × (count ≤ 64) ⌝ }
-    ensures { λ r. ⌜ r ≡ readEntries (count - 1) (firstTable count) 0 start (drop start (now (s .entry))) ⌝ }
+    ensures { λ r. ⌜ r ≡ tableRead (readEntries (count - 1) firstEntry start (drop start (now (s .entry)))) ⌝ }
 {
     let mut months = [0u32; 64];
     let mut offsets = [0i32; 64];
@@ -161,7 +134,7 @@ fn read_entries(s: &[u8], count: usize, start: usize) -> BlockRead
             NumberAnswer::Number(n, size) => {
                 let before = months[k];
                 if !gap_fine(before, n) {
-                    return refused(Refusal::Table, at);
+                    return leap::refused_at(Refusal::Table, at);
                 }
                 let offset = next_offset(offsets[k], n);
                 k += 1;
@@ -169,35 +142,29 @@ fn read_entries(s: &[u8], count: usize, start: usize) -> BlockRead
                 offsets[k] = offset;
                 at += size;
             }
-            NumberAnswer::Cut => return refused(Refusal::Cut, at),
-            NumberAnswer::Groups => return refused(Refusal::Groups, at),
+            NumberAnswer::Cut => return leap::refused_at(Refusal::Cut, at),
+            NumberAnswer::Groups => return leap::refused_at(Refusal::Groups, at),
         }
     }
     if at < s.len() {
-        return refused(Refusal::Tail, at);
+        return leap::refused_at(Refusal::Tail, at);
     }
-    let answer = BlockAnswer::Read;
-    let table = Table {
-        count,
-        months,
-        offsets,
-    };
-    BlockRead { answer, table }
+    leap::found(count, &months, &offsets)
 }
 
 // The table of a block, or the first fault and its place.
-pub fn read_block(s: &[u8]) -> BlockRead
+pub fn read_block(s: &[u8]) -> TableRead
     ensures { λ r. ⌜ r ≡ readBlock (now (s .entry)) ⌝ }
 {
     match read_number(s, 0) {
         NumberAnswer::Number(count, size) => {
             if !count_fine(count) {
-                return refused(Refusal::Table, 0);
+                return leap::refused_at(Refusal::Table, 0);
             }
             read_entries(s, count as usize, size)
         }
-        NumberAnswer::Cut => refused(Refusal::Cut, 0),
-        NumberAnswer::Groups => refused(Refusal::Groups, 0),
+        NumberAnswer::Cut => leap::refused_at(Refusal::Cut, 0),
+        NumberAnswer::Groups => leap::refused_at(Refusal::Groups, 0),
     }
 }
 
@@ -211,8 +178,8 @@ struct Block {
 
 // Twice the months from an entry to the next, plus 1 where the step is -1.
 fn step_number(month: u32, offset: i32, next_month: u32, next_offset: i32) -> u32
-    requires { ⌜ (month ≤ «next_month») × («next_month» ≤ 96335) ⌝ }
-    ensures { λ r. ⌜ r ≡ stepNumber month offset «next_month» «next_offset» ⌝ }
+    requires { ⌜ (month ≤ «next_month») × («next_month» ≤ lastMonth) ⌝ }
+    ensures { λ r. ⌜ r ≡ stepNumber (month, offset) («next_month», «next_offset») ⌝ }
 {
     let gap = next_month - month;
     if next_offset < offset {
@@ -239,7 +206,7 @@ fn block_of<'a>(count: usize, months: &'a [u32; 64], offsets: &'a [i32; 64]) -> 
 
 // Writes a table's block to the front of `out`, and gives its length.
 pub fn write_block(t: Table, out: &mut [u8]) -> Written
-    ensures { λ r. ⌜ (r ≡ written ((accepted t, TABLE) ∷ []) (blockOf t) (now (out .entry))) × (now (out .exit) ≡ bufferAfter ((accepted t, TABLE) ∷ []) (blockOf t) (now (out .entry))) ⌝ }
+    ensures { λ r. ⌜ (r ≡ writeBlock t (now (out .entry))) × (now (out .exit) ≡ writeBlockAfter t (now (out .entry))) ⌝ }
 {
     if !leap::is_accepted_in(t.count, &t.months, &t.offsets) {
         return Written::Refused(Refusal::Table);

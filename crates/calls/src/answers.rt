@@ -1,7 +1,7 @@
 // The calls: the words of a line to arguments, the answer to words.
 use answer::Refusal;
 use answer::Written;
-use block::BlockAnswer;
+use leap::TableAnswer;
 use clock::TickAnswer;
 use fields::Cursor;
 use julian::JulianAnswer;
@@ -135,11 +135,7 @@ fn set_table(line: &[u8], c: Cursor, t: Table, out: &mut [u8], at: usize) -> Ans
             table: t,
         };
     }
-    let table = Table {
-        count: count.value as usize,
-        months,
-        offsets,
-    };
+    let table = leap::tabled(count.value as usize, &months, &offsets);
     Answered {
         used: digits::append(out, at, b"ok"),
         table,
@@ -193,10 +189,10 @@ fn places(months: &[u32; 64], offsets: &[i32; 64], k: usize, out: &mut [u8], at:
     n
 }
 
-fn block_answer(a: BlockAnswer, out: &mut [u8], at: usize) -> usize {
+fn block_answer(a: TableAnswer, out: &mut [u8], at: usize) -> usize {
     match a {
-        BlockAnswer::Read => digits::append(out, at, b"0 0"),
-        BlockAnswer::Refused(why, place) => {
+        TableAnswer::Read => digits::append(out, at, b"0 0"),
+        TableAnswer::Refused(why, place) => {
             let a = refused(out, at, why, b"");
             number(out, a, place as u64)
         }

@@ -51,7 +51,7 @@ module _ (t : Table) (ok : accepted t ≡ true) where
 
   ten : (up (o 23664) ≡ 10) × (down (o 23664) ≡ 0)
   unfolding o
-  ten = let e = at-first t acc ∙ acc .ten in (ap up e, ap down e)
+  ten = let e = at-first t acc in (ap up e, ap down e)
 
   -- the ticks to the last second of 9999, after which month 120,000 begins
   count : ℕ

@@ -1,6 +1,6 @@
 -- What the check of a table says, as facts about its entries, both ways.
 -- Assumes nothing.
-use mathlib.Core.Path.{_≡_, sym, subst, _∙_}
+use mathlib.Core.Path.{_≡_, sym, ap, ap₂, subst, _∙_}
 use mathlib.Core.Logic.{_⊎_, inl, inr, ⊎-map}
 use mathlib.Core.Bool.{true, _&&_}
 use Prim.Native.Nat.{ℕ, zero, suc, _+_, _≤_, _<_}
@@ -8,31 +8,38 @@ use native.Mathlib.Numerals.{add-one}
 use native.Mathlib.Omega.{arith}
 use borrow.Author.Tests.{leb-true, ltb-true, eqb-true, lt-ltb, le-leb, eq-eqb}
 use lib.Dec.{leb, ltb, eqb}
-use lib.IntN.{ℤ, pos, sucℤ}
+use lib.IntN.{ℤ, sucℤ}
 use Rattle.laws.specs.Tests.{eqZ}
 use Rattle.laws.proofs.Cases.{and-l, and-r, one-of, or-l, or-r, join, below, all-below, by-order}
 use Rattle.laws.proofs.Machine.{eqZ-true, eqZ-eq}
 use Rattle.leap.specs.declared.Table.{Table}
-use Rattle.leap.specs.Leap.{entryMonth, entryOffset, oneApart, laterRight, placeRight, accepted}
+use Rattle.leap.specs.Leap.{lastMonth, oneApart, laterRight, placeRight, accepted}
+use Rattle.leap.specs.Entries.{Entry, firstEntry, noEntry, entry}
 use Rattle.leap.proofs.Places.{later-is, unused-is}
+
+-- entry f may come next after entry e
+pub record Later (e f : Entry) : Type 0 where
+  pub rises : e .0 < f .0
+  pub early : f .0 ≤ lastMonth
+  pub step : (f .1 ≡ sucℤ (e .1)) ⊎ (e .1 ≡ sucℤ (f .1))
 
 pub record Accepted (t : Table) : Type 0 where
   pub some-entry : 0 < t .count
   pub few : t .count ≤ 64
-  pub month-zero : entryMonth t 0 ≡ 0
-  pub ten : entryOffset t 0 ≡ pos 10
-  pub rising : (k : ℕ) → k + 1 < t .count → entryMonth t k < entryMonth t (k + 1)
-  pub inside : (k : ℕ) → k + 1 < t .count → entryMonth t (k + 1) ≤ 96335
-  pub step : (k : ℕ) → k + 1 < t .count → (entryOffset t (k + 1) ≡ sucℤ (entryOffset t k)) ⊎ (entryOffset t k ≡ sucℤ (entryOffset t (k + 1)))
-  pub unused : (k : ℕ) → t .count ≤ k → k < 64 → (entryMonth t k ≡ 0) × (entryOffset t k ≡ pos 0)
+  pub first : entry t 0 ≡ firstEntry
+  pub later : (k : ℕ) → k + 1 < t .count → Later (entry t k) (entry t (k + 1))
+  pub unused : (k : ℕ) → t .count ≤ k → k < 64 → entry t k ≡ noEntry
 
 -- ---- a place, its month m and its offset o
 
-zero-to : (m : ℕ) (o z : ℤ) → (eqb m 0 && eqZ o z) ≡ true → (m ≡ 0) × (o ≡ z)
-zero-to m o z e = (eqb-true m 0 (and-l (eqb m 0) (eqZ o z) e), eqZ-true o z (and-r (eqb m 0) (eqZ o z) e))
+pub same-entry : {m m′ : ℕ} {o o′ : ℤ} → m ≡ m′ → o ≡ o′ → _≡_ {A = Entry} (m, o) (m′, o′)
+same-entry p q = ap₂ (λ m o. (m, o)) p q
 
-zero-from : {m : ℕ} {o z : ℤ} → (m ≡ 0) × (o ≡ z) → (eqb m 0 && eqZ o z) ≡ true
-zero-from (p, q) = join (eq-eqb _ _ p) (eqZ-eq q)
+zero-to : (m : ℕ) (o z : ℤ) → (eqb m 0 && eqZ o z) ≡ true → _≡_ {A = Entry} (m, o) (0, z)
+zero-to m o z e = same-entry (eqb-true m 0 (and-l (eqb m 0) (eqZ o z) e)) (eqZ-true o z (and-r (eqb m 0) (eqZ o z) e))
+
+zero-from : {m : ℕ} {o z : ℤ} → _≡_ {A = Entry} (m, o) (0, z) → (eqb m 0 && eqZ o z) ≡ true
+zero-from e = join (eq-eqb _ _ (ap (λ x. x .0) e)) (eqZ-eq (ap (λ x. x .1) e))
 
 apart-to : (o o′ : ℤ) → oneApart o o′ ≡ true → (o′ ≡ sucℤ o) ⊎ (o ≡ sucℤ o′)
 unfolding oneApart
@@ -43,8 +50,13 @@ unfolding oneApart
 apart-from o o′ (inl q) = or-l (eqZ o (sucℤ o′)) (eqZ-eq q)
 apart-from o o′ (inr q) = or-r (eqZ o′ (sucℤ o)) (eqZ-eq q)
 
-later-to : (m : ℕ) (o : ℤ) (m′ : ℕ) (o′ : ℤ) → laterRight m o m′ o′ ≡ true → (m < m′) × ((m′ ≤ 96335) × ((o′ ≡ sucℤ o) ⊎ (o ≡ sucℤ o′)))
-later-to m o m′ o′ e = let h : (leb m′ 96335 && oneApart o o′) ≡ true = and-r (ltb m m′) _ e in (search (and-l, ltb-true), (search (and-l, leb-true), apart-to o o′ (and-r (leb m′ 96335) _ h)))
+later-to : (m : ℕ) (o : ℤ) (m′ : ℕ) (o′ : ℤ) → laterRight m o m′ o′ ≡ true → Later (m, o) (m′, o′)
+later-to m o m′ o′ e =
+    let h : (leb m′ lastMonth && oneApart o o′) ≡ true = and-r (ltb m m′) _ e in
+    record { rises = search (and-l, ltb-true); early = search (and-l, leb-true); step = apart-to o o′ (and-r (leb m′ lastMonth) _ h) }
+
+later-from : {m : ℕ} {o : ℤ} {m′ : ℕ} {o′ : ℤ} → Later (m, o) (m′, o′) → laterRight m o m′ o′ ≡ true
+later-from l = join (lt-ltb _ _ (l .rises)) (join (le-leb _ _ (l .early)) (apart-from _ _ (l .step)))
 
 -- ---- a table
 
@@ -56,8 +68,7 @@ module _ (t : Table) where
   pub accepted-to : accepted t ≡ true → Accepted t
   unfolding accepted placeRight
   accepted-to e =
-      let z = zero-to _ _ _ (right 0 (omega arith)) in
-      record { some-entry = counted .0; few = counted .1; month-zero = z .0; ten = z .1; rising = λ k h. later k h .0; inside = λ k h. later k h .1 .0; step = λ k h. later k h .1 .1; unused = λ k h l. zero-to _ _ _ (unused-is t k (omega (arith, counted)) h ∙ right k l) }
+      record { some-entry = counted .0; few = counted .1; first = zero-to _ _ _ (right 0 (omega arith)); later = λ k h. later-to _ _ _ _ (later-is t k h ∙ right (k + 1) (omega (arith, counted))); unused = λ k h l. zero-to _ _ _ (unused-is t k (omega (arith, counted)) h ∙ right k l) }
     where
       counted : (1 ≤ t .count) × (t .count ≤ 64)
       counted = count-to e
@@ -65,18 +76,12 @@ module _ (t : Table) where
       right : (k : ℕ) → k < 64 → placeRight t k ≡ true
       right = below (placeRight t) 64 (search (and-r))
 
-      later : (k : ℕ) → k + 1 < t .count → (entryMonth t k < entryMonth t (k + 1)) × ((entryMonth t (k + 1) ≤ 96335) × ((entryOffset t (k + 1) ≡ sucℤ (entryOffset t k)) ⊎ (entryOffset t k ≡ sucℤ (entryOffset t (k + 1)))))
-      later k h = later-to (entryMonth t k) (entryOffset t k) (entryMonth t (k + 1)) (entryOffset t (k + 1)) (later-is t k h ∙ right (k + 1) (omega (arith, counted)))
-
   pub accepted-from : Accepted t → accepted t ≡ true
   unfolding accepted placeRight
   accepted-from a = join (le-leb _ _ (a .some-entry)) (join (le-leb _ _ (a .few)) (all-below (placeRight t) 64 right))
     where
-      later : (k : ℕ) → k + 1 < t .count → placeRight t (k + 1) ≡ true
-      later k h = sym (later-is t k h) ∙ join (lt-ltb _ _ (a .rising k h)) (join (le-leb _ _ (a .inside k h)) (apart-from _ _ (a .step k h)))
-
       right : (k : ℕ) → k < 64 → placeRight t k ≡ true
-      right zero l = zero-from (a .month-zero, a .ten)
+      right zero l = zero-from (a .first)
       right (suc k) l =
-          by-order (suc k) (t .count) (λ h. subst (λ (j : ℕ). placeRight t j ≡ true) (add-one k) (later k (omega arith)))
+          by-order (suc k) (t .count) (λ h. subst (λ (j : ℕ). placeRight t j ≡ true) (add-one k) (let m : k + 1 < t .count = omega arith in sym (later-is t k m) ∙ later-from (a .later k m)))
           (λ h. sym (unused-is t (suc k) (omega arith) h) ∙ zero-from (a .unused (suc k) h l))

@@ -5,14 +5,15 @@ use mathlib.Core.Logic.{⊎-elim}
 use Prim.Native.Nat.{ℕ, zero, suc, _+_, _-_, _≤_, _<_}
 use native.Mathlib.Numerals.{add-one}
 use native.Mathlib.Omega.{arith}
-use lib.IntN.{ℤ}
+use lib.IntN.{ℤ, pos}
 use Rattle.laws.proofs.Cases.{by-order}
 use Rattle.laws.proofs.Difference.{up, down, eq-to, suc-is}
 use Rattle.laws.proofs.Machine.{one-side}
 use Rattle.laws.proofs.Offsets.{Beside, Steps}
 use Rattle.leap.specs.declared.Table.{Table}
-use Rattle.leap.specs.Leap.{entryMonth, entryOffset, epoch, lastBegun, top, offsetAt}
-use Rattle.leap.proofs.Facts.{Accepted}
+use Rattle.leap.specs.Leap.{lastMonth, entryMonth, entryOffset, epoch, lastBegun, top, offsetAt}
+use Rattle.leap.specs.Entries.{entry}
+use Rattle.leap.proofs.Facts.{Later, Accepted}
 use Rattle.leap.proofs.Begun.{begun-le, begun-all, begun-less, begun-first}
 
 module _ (t : Table) (acc : Accepted t) where
@@ -28,12 +29,12 @@ module _ (t : Table) (acc : Accepted t) where
 
   -- ---- from an entry to the next
 
-  rises : (k : ℕ) → suc k < t .count → (entryMonth t k < entryMonth t (suc k)) × (entryMonth t (suc k) ≤ 96335)
-  rises k h = (rw (add-one k) at (acc .rising k (omega arith)), rw (add-one k) at (acc .inside k (omega arith)))
+  rises : (k : ℕ) → suc k < t .count → Later (entry t k) (entry t (suc k))
+  rises k h = rw (add-one k) at (acc .later k (omega arith))
 
   steps : (k : ℕ) → k + 1 < t .count → Beside (entryOffset t k) (entryOffset t (k + 1))
   steps k h =
-      ⊎-elim (λ q. omega (arith, eq-to q, suc-is (entryOffset t k))) (λ q. omega (arith, eq-to q, suc-is (entryOffset t (k + 1)))) (acc .step k h)
+      ⊎-elim (λ q. omega (arith, eq-to q, suc-is (entryOffset t k))) (λ q. omega (arith, eq-to q, suc-is (entryOffset t (k + 1)))) (acc .later k h .step)
 
   -- ---- from a month to the next
 
@@ -57,31 +58,34 @@ module _ (t : Table) (acc : Accepted t) where
       (λ h. let e : begun (m + 1) last ≡ begun m last + 1 = omega arith in rw e (steps (begun m last) (omega (arith, begun-le (t .months) (m + 1) last, last-is))))
       (λ h. let e : begun (m + 1) last ≡ begun m last = omega arith in rw e (omega arith))
 
-  pub kept : (m : ℕ) → 119999 ≤ m → offsetAt t m ≡ entryOffset t (t .count - 1)
+  pub kept : (m : ℕ) → epoch + lastMonth ≤ m → offsetAt t m ≡ entryOffset t (t .count - 1)
   unfolding offsetAt last
   kept m h =
       let e : last ≡ t .count - 1 = omega (arith, last-is) in
       ap (entryOffset t) (begun-all (t .months) m last (omega (arith, inside last (omega (arith, last-is)))) ∙ e)
     where
       -- no entry's month is past December 9999
-      inside : (k : ℕ) → k < t .count → entryMonth t k ≤ 96335
-      inside zero l = omega (arith, acc .month-zero)
-      inside (suc k) l = rises k l .1
+      inside : (k : ℕ) → k < t .count → entryMonth t k ≤ lastMonth
+      inside zero l = omega (arith, ap (λ e. e .0) (acc .first))
+      inside (suc k) l = rises k l .early
 
   -- in January 1972 no entry but the first has begun
-  none-begun : (k : ℕ) → k < t .count → begun 23664 k ≡ 0
+  none-begun : (k : ℕ) → k < t .count → begun epoch k ≡ 0
   unfolding begun
-  none-begun zero h = begun-first (t .months) 23664 0 (omega arith)
-  none-begun (suc k) h = begun-less (t .months) 23664 k (omega (arith, rises k h)) ∙ none-begun k (omega arith)
+  none-begun zero h = begun-first (t .months) epoch 0 (omega arith)
+  none-begun (suc k) h = begun-less (t .months) epoch k (omega (arith, rises k h .rises)) ∙ none-begun k (omega arith)
 
-  pub at-first : offsetAt t 23664 ≡ entryOffset t 0
+  ten : entryOffset t 0 ≡ pos 10
+  ten = ap (λ e. e .1) (acc .first)
+
+  pub at-first : offsetAt t epoch ≡ pos 10
   unfolding offsetAt last begun
-  at-first = ap (entryOffset t) (none-begun last (omega (arith, last-is)))
+  at-first = ap (entryOffset t) (none-begun last (omega (arith, last-is))) ∙ ten
 
   -- ---- how far it gets
 
   entry-small : (k : ℕ) → k < t .count → (up (entryOffset t k) ≤ 10 + k) × (down (entryOffset t k) ≤ k)
-  entry-small zero h = omega (arith, eq-to (acc .ten), one-side (entryOffset t 0))
+  entry-small zero h = omega (arith, eq-to ten, one-side (entryOffset t 0))
   entry-small (suc k) h =
       let ih = entry-small k (omega arith) in
       let n = rw (add-one k) at (steps k (omega arith)) in

@@ -16,6 +16,10 @@ tabled n ms os = record { count = n; months = ms; offsets = os }
 
 -- ---- an accepted table
 
+-- December 9999, where January 1972 is 0
+abbrev pub lastMonth : ℕ
+lastMonth = 96335
+
 -- the month number of entry k, where January 1972 is 0
 abbrev pub entryMonth : Table → ℕ → ℕ
 entryMonth t k = getD (t .months) k 0
@@ -34,7 +38,7 @@ oneApart o o′ = eqZ o′ (sucℤ o) || eqZ o (sucℤ o′)
 
 -- an entry of month m′ after one of month m: months rise strictly, up to December 9999, and the offsets are one apart
 abbrev pub laterRight : ℕ → ℤ → ℕ → ℤ → Bool
-laterRight m o m′ o′ = ltb m m′ && (leb m′ 96335 && oneApart o o′)
+laterRight m o m′ o′ = ltb m m′ && (leb m′ lastMonth && oneApart o o′)
 
 -- unused places are zero
 abbrev pub unusedRight : ℕ → ℤ → Bool
@@ -82,9 +86,13 @@ abbrev pub rising : ℕ → ℕ → List ℤ
 rising zero z = []
 rising (suc n) z = pos z ∷ rising n (suc z)
 
+-- 64 places, those that are not given zero
+abbrev pub padded : {A : Type 0} → A → List A → List A
+padded z xs = xs ++ replicate (64 - length xs) z
+
 -- a table of these entries, its unused places zero
 abbrev pub filled : List ℕ → List ℤ → Table
-filled ms os = tabled (length ms) (ms ++ replicate (64 - length ms) 0) (os ++ replicate (64 - length ms) (pos 0))
+filled ms os = tabled (length ms) (padded 0 ms) (padded (pos 0) os)
 
 -- the month numbers of a year's January and July
 abbrev pub january : ℕ → ℕ

@@ -2,11 +2,13 @@
 // Inside, the arrays are lent: a struct that holds them is copied at every call that takes it.
 mod bulletin;
 
+use answer::Refusal;
 ghost use mathlib.Core.Path.{_≡_};
 ghost use Prim.Native.Nat.{_+_, _≤_, _<_};
 ghost use lib.IntN.{sucℤ};
 ghost use lib.Dec.{leb};
 ghost use Rattle.laws.specs.Tests.{eqZ, allBelow};
+ghost use Rattle.leap.specs.Readers.{found, refusedAt};
 ghost use Rattle.leap.specs.Leap.{tabled, oneApart, firstRight, laterRight, unusedRight, placeRight, accepted, epoch, lastBegun, offsetAt, nearAt, top, bulletinC};
 
 // `count` entries, each a month (January 1972 is 0) and TAI-UTC in seconds from its first day. Unused places are zero.
@@ -14,6 +16,57 @@ pub struct Table {
     pub count: usize,
     pub months: [u32; 64],
     pub offsets: [i32; 64],
+}
+
+// January 1972, the table's month 0, among the calendar's months from January of year 0.
+pub const EPOCH: u32 = 23664;
+
+// December 9999 in the table's months.
+pub const LAST_MONTH: u32 = 96335;
+
+pub fn tabled<'a>(count: usize, months: &'a [u32; 64], offsets: &'a [i32; 64]) -> Table
+    ensures { λ r. ⌜ r ≡ tabled count (now (months .entry)) (now (offsets .entry)) ⌝ }
+{
+    let m = *months;
+    let o = *offsets;
+    Table {
+        count,
+        months: m,
+        offsets: o,
+    }
+}
+
+// ---- what a reader of tables answers
+
+pub enum TableAnswer {
+    Read,
+    Refused(Refusal, usize),
+}
+
+// The table is all zero on a refusal.
+pub struct TableRead {
+    pub answer: TableAnswer,
+    pub table: Table,
+}
+
+pub fn found<'a>(count: usize, months: &'a [u32; 64], offsets: &'a [i32; 64]) -> TableRead
+    ensures { λ r. ⌜ r ≡ found (tabled count (now (months .entry)) (now (offsets .entry))) ⌝ }
+{
+    let answer = TableAnswer::Read;
+    let table = tabled(count, months, offsets);
+    TableRead { answer, table }
+}
+
+pub fn refused_at(why: Refusal, at: usize) -> TableRead
+    ensures { λ r. ⌜ r ≡ refusedAt why at ⌝ }
+{
+    let answer = TableAnswer::Refused(why, at);
+    let table = Table {
+        count: 0,
+        months: [0; 64],
+        offsets: [0; 64],
+    };
+    TableRead { answer, table }
 }
 
 // ---- the check: one place at a time on plain numbers, and a flag in each loop, so that the loops compile to vectors
@@ -44,7 +97,7 @@ fn first_right(month: u32, offset: i32) -> bool
 fn later_right(prior: u32, before: i32, month: u32, offset: i32) -> bool
     ensures { λ r. ⌜ r ≡ laterRight prior before month offset ⌝ }
 {
-    (prior < month) & ((month <= 96335) & one_apart(before, offset))
+    (prior < month) & ((month <= LAST_MONTH) & one_apart(before, offset))
 }
 
 fn unused_right(month: u32, offset: i32) -> bool
@@ -102,9 +155,6 @@ pub fn is_accepted(t: Table) -> bool
 }
 
 // ---- TAI-UTC
-
-// January 1972, the table's month 0, among the calendar's months from January of year 0.
-pub const EPOCH: u32 = 23664;
 
 // A month of the table has begun in the calendar's month m.
 fn has_begun(month: u32, m: u64) -> bool

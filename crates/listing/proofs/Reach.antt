@@ -14,8 +14,8 @@ use Rattle.laws.proofs.Cases.{by-order}
 use Rattle.answer.specs.declared.Refusal.the-variants.{Shape as SHAPE}
 use Rattle.leap.specs.declared.Table.{Table}
 use Rattle.stamp.specs.declared.Label.{Label}
-use Rattle.block.specs.declared.BlockAnswer.{BlockAnswer}
-use Rattle.block.specs.declared.BlockAnswer.the-variants.{Read as BlockGood, Refused as BlockBad}
+use Rattle.leap.specs.declared.TableAnswer.{TableAnswer}
+use Rattle.leap.specs.declared.TableAnswer.the-variants.{Read as BlockGood, Refused as BlockBad}
 use Rattle.text.specs.declared.TextAnswer.{TextAnswer}
 use Rattle.text.specs.declared.TextAnswer.the-variants.{Read, Refused as NotRead}
 use Rattle.lines.specs.Words.{before}
@@ -80,7 +80,7 @@ long-count : (t : Table) (l : Label) (c : List ℕ) → 1024 < length c → from
 unfolding fromCount countLine
 long-count t l c h = rw (lt-leb (length c) 1024 h)
 
-block-same : (f g : Table → List ℕ) (t : Table) (a : BlockAnswer) → ((t : Table) → f t ≡ g t) → afterBlock f t a ≡ afterBlock g t a
+block-same : (f g : Table → List ℕ) (t : Table) (a : TableAnswer) → ((t : Table) → f t ≡ g t) → afterBlock f t a ≡ afterBlock g t a
 block-same f g t BlockGood h = h t
 block-same f g t (BlockBad why at) h = refl
 

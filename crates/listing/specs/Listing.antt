@@ -16,10 +16,11 @@ use Rattle.stamp.specs.Labels.{monthOf, secondOf}
 use Rattle.clock.specs.declared.TickAnswer.{TickAnswer}
 use Rattle.clock.specs.declared.TickAnswer.the-variants.{Next, Refused as Ended}
 use Rattle.clock.specs.Clock.{whole, tickAnswer}
-use Rattle.block.specs.declared.BlockAnswer.{BlockAnswer}
-use Rattle.block.specs.declared.BlockAnswer.the-variants.{Read as BlockGood, Refused as BlockBad}
-use Rattle.block.specs.declared.BlockRead.{BlockRead}
-use Rattle.block.specs.Reading.{refusedAt, readBlock}
+use Rattle.leap.specs.declared.TableAnswer.{TableAnswer}
+use Rattle.leap.specs.declared.TableAnswer.the-variants.{Read as BlockGood, Refused as BlockBad}
+use Rattle.leap.specs.declared.TableRead.{TableRead}
+use Rattle.leap.specs.Readers.{refusedAt}
+use Rattle.block.specs.Reading.{readBlock}
 use Rattle.text.specs.declared.TextAnswer.{TextAnswer}
 use Rattle.text.specs.declared.TextAnswer.the-variants.{Read, Refused as NotRead}
 use Rattle.text.specs.Pictures.{ascii}
@@ -49,7 +50,7 @@ abbrev pub without : ℕ → List ℕ → Bool
 without b line = eqb (length (before b line)) (length line)
 
 -- a block in hex
-unfoldable pub blockLine : List ℕ → BlockRead
+unfoldable pub blockLine : List ℕ → TableRead
 blockLine line =
     refusing (λ why. refusedAt why 0) ((short line, SHAPE) ∷ (allPairs line, SHAPE) ∷ []) (readBlock (paired line))
 
@@ -97,7 +98,7 @@ rows t (suc n) l = rowText t l ++ onward (rows t n) (tickAnswer t l)
 
 -- ---- the first bad line decides
 
-abbrev pub afterBlock : (Table → List ℕ) → Table → BlockAnswer → List ℕ
+abbrev pub afterBlock : (Table → List ℕ) → Table → TableAnswer → List ℕ
 afterBlock next t BlockGood = next t
 afterBlock next t (BlockBad why at) = refusalText why
 

@@ -9,7 +9,7 @@ ghost use lib.ListN.{length, take, drop};
 ghost use lib.Signed.{quotZ};
 ghost use Rattle.answer.specs.Buffers.{written, bufferAfter};
 ghost use Rattle.answer.specs.declared.Refusal.the-variants.{Shape as SHAPE};
-ghost use Rattle.block.specs.Reading.{refusedAt};
+ghost use Rattle.leap.specs.Readers.{refusedAt};
 ghost use Rattle.leap.specs.Leap.{accepted};
 ghost use Rattle.clock.specs.Promise.{admits};
 ghost use Rattle.lines.specs.Words.{before};
@@ -17,8 +17,8 @@ ghost use Rattle.digits.specs.Bytes.{Placed};
 ghost use Rattle.listing.specs.Listing.{lineOf, blockLine, stampLine, countLine, refusalText, header, rowText, rows, fromCount, fromStamp, fromBlock, listed};
 use answer::Refusal;
 use answer::Written;
-use block::BlockAnswer;
-use block::BlockRead;
+use leap::TableAnswer;
+use leap::TableRead;
 use clock::TickAnswer;
 use digits::Number;
 use leap::Table;
@@ -69,11 +69,11 @@ fn nth_line(s: &[u8], k: usize) -> Line
     Line { from, end }
 }
 
-fn no_block() -> BlockRead
+fn no_block() -> TableRead
     ensures { λ r. ⌜ r ≡ refusedAt SHAPE 0 ⌝ }
 {
-    BlockRead {
-        answer: BlockAnswer::Refused(Refusal::Shape, 0),
+    TableRead {
+        answer: TableAnswer::Refused(Refusal::Shape, 0),
         table: Table {
             count: 0,
             months: [0; 64],
@@ -83,7 +83,7 @@ fn no_block() -> BlockRead
 }
 
 // The first line: a block in hex.
-fn block_line(line: &[u8]) -> BlockRead
+fn block_line(line: &[u8]) -> TableRead
     ensures { λ r. ⌜ r ≡ blockLine (now (line .entry)) ⌝ }
 {
     if 1024 < line.len() {
@@ -217,8 +217,8 @@ fn print(a: &[u8], b: &[u8], c: &[u8], out: &mut [u8]) -> usize
     let read = block_line(a);
     let answer = read.answer;
     match answer {
-        BlockAnswer::Read => print_from_stamp(read.table, b, c, out),
-        BlockAnswer::Refused(why, _) => print_refusal(why, out),
+        TableAnswer::Read => print_from_stamp(read.table, b, c, out),
+        TableAnswer::Refused(why, _) => print_refusal(why, out),
     }
 }
 

@@ -12,16 +12,16 @@ use Rattle.stamp.specs.Instants.{scaleNumber}
 use Rattle.stamp.specs.Stamps.{stampResults}
 use Rattle.clock.specs.declared.TickAnswer.{TickAnswer}
 use Rattle.clock.specs.Clock.{tickResults}
-use Rattle.block.specs.declared.BlockRead.{BlockRead}
-use Rattle.block.specs.Reading.{blockResults}
+use Rattle.leap.specs.declared.TableRead.{TableRead}
+use Rattle.leap.specs.Readers.{tableResults}
 use Rattle.text.specs.declared.TextAnswer.{TextAnswer}
 use Rattle.text.specs.Text.{textResults}
 use Rattle.julian.specs.declared.JulianAnswer.{JulianAnswer}
 use Rattle.julian.specs.Dates.{julianResults}
 use Rattle.mundreff.specs.Words.{tableWords}
 
-abbrev pub tableNumbers : BlockRead → ℕ × ℕ × List ℕ
-tableNumbers b = (blockResults b .0, blockResults b .1, tableWords (blockResults b .2))
+abbrev pub tableNumbers : TableRead → ℕ × ℕ × List ℕ
+tableNumbers b = (tableResults b .0, tableResults b .1, tableWords (tableResults b .2))
 
 abbrev pub stampFields : Stamp → List ℕ
 stampFields z = scaleNumber (z .scale) ∷ (fields (z .reading .label) ++ z .reading .micro ∷ [])

@@ -1,17 +1,12 @@
--- What C hands over as numbers in a row, and the answers that the crates below state in parts.
+-- What C hands over as numbers in a row.
 -- Assumes nothing.
 use mathlib.Core.List.{List}
 use Prim.Native.Nat.{ℕ, _+_}
 use lib.Ieee.{Float}
 use lib.ListN.{getD}
-use Rattle.answer.specs.declared.Written.{Written}
-use Rattle.answer.specs.Buffers.{written, bufferAfter}
-use Rattle.leap.specs.declared.Table.{Table}
 use Rattle.stamp.specs.declared.Label.{Label}
 use Rattle.stamp.specs.declared.Reading.{Reading}
 use Rattle.stamp.specs.Labels.{label}
-use Rattle.block.specs.Blocks.{blockOf}
-use Rattle.block.specs.Promise.{tests}
 use Rattle.julian.specs.declared.JulianDate.{JulianDate}
 
 -- ---- what is handed over
@@ -29,11 +24,3 @@ readingFrom s = record { label = labelFrom 1 s; micro = getD s 7 0 }
 
 abbrev pub pair : Float → Float → JulianDate
 pair m f = record { midnight = m; fraction = f }
-
--- ---- a block that is written: the answer, and the buffer afterwards
-
-abbrev pub blockWritten : Table → List ℕ → Written
-blockWritten t buffer = written (tests t) (blockOf t) buffer
-
-abbrev pub blockAfter : Table → List ℕ → List ℕ
-blockAfter t buffer = bufferAfter (tests t) (blockOf t) buffer

@@ -15,10 +15,11 @@ ghost use Rattle.text.specs.Text.{textAnswer, writeAnswer, bufferThen};
 ghost use Rattle.julian.specs.Dates.{julianAnswer, dateAnswer};
 ghost use Rattle.mundreff.specs.Words.{offsetFrom, offsetWord, wordsAt, tableFrom, tableWords};
 ghost use Rattle.mundreff.specs.Answers.{tableNumbers, stampFields, stampNumbers, textNumbers, labelNumbers, pairNumbers};
-ghost use Rattle.mundreff.specs.Calls.{labelFrom, scaleFrom, readingFrom, pair, blockWritten, blockAfter};
+ghost use Rattle.block.specs.Blocks.{writeBlock, writeBlockAfter};
+ghost use Rattle.mundreff.specs.Calls.{labelFrom, scaleFrom, readingFrom, pair};
 use answer::Written;
-use block::BlockAnswer;
-use block::BlockRead;
+use leap::TableAnswer;
+use leap::TableRead;
 use clock::TickAnswer;
 use julian::JulianAnswer;
 use julian::JulianDate;
@@ -79,11 +80,7 @@ fn table_of(words: &[u32; 129]) -> Table
     let count = count_of(words[0]);
     let months = months_of(words);
     let offsets = offsets_of(words);
-    Table {
-        count,
-        months,
-        offsets,
-    }
+    leap::tabled(count, &months, &offsets)
 }
 
 fn label_of(numbers: &[u32; 6]) -> Label
@@ -285,18 +282,18 @@ fn give_pair<'a>(a: JulianAnswer, midnight: &'a mut f64, fraction: &'a mut f64) 
     }
 }
 
-fn give_table<'a>(found: BlockRead, place: &'a mut usize, table: &'a mut [u32; 129]) -> u32
+fn give_table<'a>(found: TableRead, place: &'a mut usize, table: &'a mut [u32; 129]) -> u32
     ensures { λ r. ⌜ (r, now (place .exit), now (table .exit)) ≡ tableNumbers found ⌝ }
 {
     let t = found.table;
     store_table(t, table);
     let a = found.answer;
     match a {
-        BlockAnswer::Read => {
+        TableAnswer::Read => {
             *place = 0;
             0
         }
-        BlockAnswer::Refused(why, at) => {
+        TableAnswer::Refused(why, at) => {
             *place = at;
             answer::number_of(why)
         }
@@ -330,8 +327,8 @@ pub extern "C" fn mundreff_write_block(
     out: &mut [u8],
     length: &mut usize,
 ) -> u32
-    ensures { λ r. ⌜ (r, now (length .exit)) ≡ writtenResults (blockWritten (tableFrom (now (table .entry))) (now (out .entry))) ⌝ }
-    ensures { λ _. ⌜ now (out .exit) ≡ blockAfter (tableFrom (now (table .entry))) (now (out .entry)) ⌝ }
+    ensures { λ r. ⌜ (r, now (length .exit)) ≡ writtenResults (writeBlock (tableFrom (now (table .entry))) (now (out .entry))) ⌝ }
+    ensures { λ _. ⌜ now (out .exit) ≡ writeBlockAfter (tableFrom (now (table .entry))) (now (out .entry)) ⌝ }
 {
     give_length(block::write_block(table_of(table), out), length)
 }

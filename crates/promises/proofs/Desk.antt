@@ -9,7 +9,7 @@ use Rattle.text.specs.declared.TextAnswer.{TextAnswer}
 use Rattle.text.specs.declared.TextAnswer.the-variants.{Read, Refused}
 use Rattle.text.specs.Text.{textResults}
 use Rattle.text.proofs.Worked as text
-use Rattle.block.proofs.Worked as block
+use Rattle.block.proofs.Desk as block
 use Rattle.promises.specs.Worked.{rows, AllRight}
 
 read : {a : TextAnswer} {x : ℤ} {z : Stamp} → a ≡ Read x z → (textResults a .0 ≡ 0) × (textResults a .1 ≡ x)

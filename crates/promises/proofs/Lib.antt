@@ -4,7 +4,7 @@ pub mod Settled
 pub mod Refuses
 pub mod Stamps
 pub mod Texts
-pub mod Stored
+pub mod Blocks
 pub mod Ticks
 pub mod Pairs
 pub mod Desk

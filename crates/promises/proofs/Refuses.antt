@@ -8,11 +8,11 @@ use lib.ListN.{length, take, drop}
 use Rattle.laws.proofs.Placed.{length-over, over-front, over-rest}
 use Rattle.answer.specs.declared.Refusal.{Refusal}
 use Rattle.answer.specs.Buffers.{written, bufferAfter, writtenResults}
-use Rattle.answer.proofs.Writers.{refused-keeps, wrote-over}
-use Rattle.block.specs.Reading.{readBlock}
-use Rattle.block.proofs.Zeros.{gives-no-table}
+use Rattle.answer.proofs.Writers.{wrote, refused-keeps, wrote-over}
+use Rattle.leap.proofs.Readers.{gives-no-table}
+use Rattle.block.specs.Reading.{inBlock}
 use Rattle.promises.specs.Refused.{Kept, Refuses}
-use Rattle.promises.proofs.Said.{wrote, not-wrote, not-read}
+use Rattle.promises.proofs.Said.{not-wrote}
 
 kept : (tests : List (Bool × Refusal)) (bytes buffer : List ℕ) (n : ℕ) → writtenResults (written tests bytes buffer) ≡ (0, n) → Kept bytes buffer (bufferAfter tests bytes buffer) n
 kept tests bytes buffer n e =
@@ -29,5 +29,5 @@ refuses =
     record {
       writes-nothing = λ tests bytes buffer h. let r = not-wrote (written tests bytes buffer) h in refused-keeps tests bytes buffer (r .0) (r .1);
       writes-no-more = kept;
-      gives-no-table = λ s h. let r = not-read (readBlock s .answer) (readBlock s .table) h in gives-no-table s (r .0) (r .1) (r .2);
+      gives-no-table = λ s. gives-no-table (inBlock s);
     }

@@ -13,10 +13,6 @@ use Rattle.answer.specs.declared.Written.the-variants.{Wrote, Refused as NotWri
 use Rattle.answer.specs.Refusals.{number}
 use Rattle.answer.specs.Buffers.{writtenResults}
 use Rattle.answer.proofs.Orders.{number-some}
-use Rattle.leap.specs.declared.Table.{Table as Leap}
-use Rattle.block.specs.declared.BlockAnswer.{BlockAnswer}
-use Rattle.block.specs.declared.BlockAnswer.the-variants.{Read as BlockGood, Refused as BlockRefused}
-use Rattle.block.specs.Reading.{blockResults}
 use Rattle.stamp.specs.declared.Label.{Label}
 use Rattle.stamp.specs.declared.Stamp.{Stamp}
 use Rattle.stamp.specs.declared.InstantAnswer.{InstantAnswer}
@@ -56,17 +52,9 @@ named-back Number = refl
 pub numbers-differ : (why other : Refusal) → number why ≡ number other → why ≡ other
 numbers-differ why other e = sym (named-back why) ∙ ap named e ∙ named-back other
 
-pub wrote : (a : Written) (n : ℕ) → writtenResults a ≡ (0, n) → a ≡ Wrote n
-wrote (Wrote m) n e = ap (λ v. Wrote (v .1)) e
-wrote (NotWritten why) n e = absurd (number-some why (ap (λ v. v .0) e))
-
 pub not-wrote : (a : Written) → (writtenResults a .0 ≡ 0 → ⊥) → (why : Refusal) × (a ≡ NotWritten why)
 not-wrote (Wrote m) h = absurd (h refl)
 not-wrote (NotWritten why) h = (why, refl)
-
-pub not-read : (a : BlockAnswer) (t : Leap) → (blockResults (record { answer = a; table = t }) .0 ≡ 0 → ⊥) → (why : Refusal) × (place : ℕ) × (a ≡ BlockRefused why place)
-not-read BlockGood t h = absurd (h refl)
-not-read (BlockRefused why place) t h = (why, place, refl)
 
 pub at : (a : InstantAnswer) (x : ℤ) → instantResults a ≡ (0, x) → a ≡ At x
 at (At y) x e = ap (λ v. At (v .1)) e

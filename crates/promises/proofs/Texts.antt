@@ -6,7 +6,7 @@ use Rattle.stamp.specs.Stamps.{stampResults}
 use Rattle.text.specs.Text.{writeAnswer}
 use Rattle.text.proofs.ReadBack.{promised}
 use Rattle.promises.specs.Text.{Demand2Text}
-use Rattle.promises.proofs.Said.{wrote}
+use Rattle.answer.proofs.Writers.{wrote}
 
 pub demand2-text : Demand2Text
 demand2-text =

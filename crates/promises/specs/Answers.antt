@@ -1,6 +1,6 @@
 -- Answers in the scope's numbers: that of the refusal, 0 on success, the place of a refused block, and the values, zero in the rest on a refusal.
 -- Each crate has them for its answer type, case by case (`writtenResults`, `instantResults`, `stampResults`, `tickResults`, `textResults`, `julianResults`,
--- `blockResults`), and the promises speak of answers by these alone, but for `Settled`, which
+-- `tableResults`), and the promises speak of answers by these alone, but for `Settled`, which
 -- repeats the contracts. Here is what holds of them; stamps, labels and pairs are shown in C's form.
 -- Assumes nothing.
 use mathlib.Core.Path.{_≡_}
@@ -19,7 +19,7 @@ use Rattle.stamp.specs.Instants.{instantResults}
 use Rattle.clock.specs.declared.TickAnswer.the-variants.{Refused as NoTick}
 use Rattle.text.specs.declared.TextAnswer.the-variants.{Refused as NoText}
 use Rattle.julian.specs.declared.JulianAnswer.the-variants.{Refused as NoDate}
-use Rattle.block.specs.Reading.{zeroTable, refusedAt, blockResults}
+use Rattle.leap.specs.Readers.{noTable, refusedAt, tableResults}
 use Rattle.mundreff.specs.Answers.{stampNumbers, labelNumbers, textNumbers, pairNumbers}
 
 -- what a refusal hands over, whatever the call: its number, and zero in the rest
@@ -31,7 +31,7 @@ pub record ZeroInTheRest (why : Refusal) : Type 0 where
   pub a-text : textNumbers (NoText why) ≡ (number why, pos 0, replicate 8 0)
   pub a-pair : pairNumbers (NoDate why) ≡ (number why, fin false 0 (pos 0), fin false 0 (pos 0))
   -- a block has its place too
-  pub a-block : (place : ℕ) → blockResults (refusedAt why place) ≡ (number why, place, zeroTable)
+  pub a-block : (place : ℕ) → tableResults (refusedAt why place) ≡ (number why, place, noTable)
 
 pub record Answers : Type 0 where
   pub zero-in-the-rest : (why : Refusal) → ZeroInTheRest why

@@ -18,10 +18,10 @@ use Rattle.stamp.specs.Instants.{instantAnswer, instantResults}
 use Rattle.stamp.specs.Stamps.{stampAnswer}
 use Rattle.clock.specs.declared.TickAnswer.{TickAnswer}
 use Rattle.clock.specs.Clock.{startAnswer, tickAnswer}
-use Rattle.block.specs.declared.BlockRead.{BlockRead}
+use Rattle.leap.specs.declared.TableRead.{TableRead}
 use Rattle.block.specs.Blocks.{blockOf}
 use Rattle.block.specs.Reading.{readBlock}
-use Rattle.block.specs.Promise.{tests}
+use Rattle.block.specs.Blocks.{tests}
 use Rattle.text.specs.declared.TextAnswer.{TextAnswer}
 use Rattle.text.specs.Text.{textAnswer, writeAnswer, bufferThen}
 use Rattle.julian.specs.declared.JulianAnswer.{JulianAnswer}
@@ -29,7 +29,8 @@ use Rattle.julian.specs.declared.JulianDate.{JulianDate}
 use Rattle.julian.specs.Dates.{julianAnswer, dateAnswer}
 use Rattle.mundreff.specs.Words.{tableFrom, tableWords}
 use Rattle.mundreff.specs.Answers.{tableNumbers, stampNumbers, textNumbers, labelNumbers, pairNumbers}
-use Rattle.mundreff.specs.Calls.{labelFrom, scaleFrom, readingFrom, pair, blockWritten, blockAfter}
+use Rattle.block.specs.Blocks.{writeBlock, writeBlockAfter}
+use Rattle.mundreff.specs.Calls.{labelFrom, scaleFrom, readingFrom, pair}
 
 -- at most one value is allowed
 abbrev pub AtMostOne : {A : Type 0} → (A → Type 0) → Type 0
@@ -44,7 +45,7 @@ abbrev pub WroteInC : Type 0
 WroteInC = (ℕ × ℕ) × List ℕ
 
 pub record Settled : Type 0 where
-  pub read-block : (block : List ℕ) → AtMostOne (λ (r : BlockRead). r ≡ readBlock block)
+  pub read-block : (block : List ℕ) → AtMostOne (λ (r : TableRead). r ≡ readBlock block)
   pub write-block : (t : Table) (buffer : List ℕ) → AtMostOne (λ (r : Wrote). (r .0 ≡ written (tests t) (blockOf t) buffer) × (r .1 ≡ bufferAfter (tests t) (blockOf t) buffer))
   pub instant-of : (t : Table) (scale : ℕ) (r : Reading) → AtMostOne (λ (a : InstantAnswer). a ≡ instantAnswer t scale r)
   pub stamp-of : (t : Table) (instant : ℤ) (scale : ℕ) → AtMostOne (λ (a : StampAnswer). a ≡ stampAnswer t instant scale)
@@ -60,7 +61,7 @@ pub record Settled : Type 0 where
 pub record SettledInC : Type 0 where
   pub bulletin-c : AtMostOne (λ (r : ℕ × List ℕ). (r .0 ≡ 0) × (r .1 ≡ tableWords bulletinC))
   pub read-block : (block : List ℕ) → AtMostOne (λ (r : ℕ × ℕ × List ℕ). r ≡ tableNumbers (readBlock block))
-  pub write-block : (table buffer : List ℕ) → AtMostOne (λ (r : WroteInC). (r .0 ≡ writtenResults (blockWritten (tableFrom table) buffer)) × (r .1 ≡ blockAfter (tableFrom table) buffer))
+  pub write-block : (table buffer : List ℕ) → AtMostOne (λ (r : WroteInC). (r .0 ≡ writtenResults (writeBlock (tableFrom table) buffer)) × (r .1 ≡ writeBlockAfter (tableFrom table) buffer))
   pub instant-of : (table stamp : List ℕ) → AtMostOne (λ (r : ℕ × ℤ). r ≡ instantResults (instantAnswer (tableFrom table) (scaleFrom stamp) (readingFrom stamp)))
   pub stamp-of : (table : List ℕ) (instant : ℤ) (scale : ℕ) → AtMostOne (λ (r : ℕ × List ℕ). r ≡ stampNumbers (stampAnswer (tableFrom table) instant scale))
   pub read-text : (table : List ℕ) (scale : ℕ) (text : List ℕ) → AtMostOne (λ (r : ℕ × ℤ × List ℕ). r ≡ textNumbers (textAnswer (tableFrom table) scale text))

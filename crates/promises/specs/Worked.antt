@@ -9,7 +9,8 @@ use lib.IntN.{ℤ, pos, negℤ}
 use Rattle.leap.specs.declared.Table.{Table}
 use Rattle.leap.specs.Leap.{bulletinC}
 use Rattle.leap.specs.Desk.{T, N}
-use Rattle.block.specs.Reading.{zeroTable, readBlock, blockResults}
+use Rattle.leap.specs.Readers.{noTable, tableResults}
+use Rattle.block.specs.Reading.{readBlock}
 use Rattle.text.specs.Pictures.{ascii}
 use Rattle.text.specs.Text.{textAnswer, textResults}
 
@@ -49,7 +50,7 @@ rows =
 abbrev pub Right : Row → Type 0
 Right (gives t k s x) = (textResults (textAnswer t k (ascii s)) .0 ≡ 0) × (textResults (textAnswer t k (ascii s)) .1 ≡ x)
 Right (refused t k s number) = textResults (textAnswer t k (ascii s)) .0 ≡ number
-Right (faulty s number place) = blockResults (readBlock s) ≡ (number, place, zeroTable)
+Right (faulty s number place) = tableResults (readBlock s) ≡ (number, place, noTable)
 
 abbrev pub AllRight : List Row → Type 0
 AllRight [] = Unit {0}

@@ -25,7 +25,7 @@ steps t acc Tdt = uniform-steps
 steps t acc Gps = uniform-steps
 
 pub first-offset : (t : Table) → Accepted t → (s : Scale) → firstOffset s ≡ offsetsOf t s 23664
-first-offset t acc Utc = sym (at-first t acc ∙ acc .ten)
+first-offset t acc Utc = sym (at-first t acc)
 first-offset t acc Tai = refl
 first-offset t acc Tdt = refl
 first-offset t acc Gps = refl

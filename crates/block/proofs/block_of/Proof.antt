@@ -12,8 +12,8 @@ use Rattle.laws.proofs.Machine.{read2}
 use Rattle.leap.specs.Leap.{tabled}
 use Rattle.leap.proofs.Facts.{accepted-to}
 use Rattle.block.proofs.Numbers.{number-size}
-use Rattle.block.proofs.Writing.{Stored, stored-first, stored-last, stored-small, stored-more}
-use Rattle.block.specs.Blocks.{stepNumber, stepAfter}
+use Rattle.block.proofs.Blocks.{stepAfter, Stored, stored-first, stored-last, stored-small, stored-more}
+use Rattle.block.specs.Blocks.{stepNumber}
 use Rattle.block.proofs.block_of.Statement.{statement}
 use Rattle.block.proofs.block_of.Tie as tie
 
@@ -39,7 +39,7 @@ module _ (c : tie.After-step-number Inv-loop μ-loop) where
       let ms = now (a .args .months) in
       let os = now (a .args .offsets) in
       let k = at-loop .loop .k in
-      read2 (λ x y. stepNumber (getD ms k 0) x (getD ms (k + 1) 0) y) {w = w32} {a = getD os k (pos 0)} {b = getD os (k + 1) (pos 0)} (sfits-of (c .before .before .before .step-number-arg2 .given)) (sfits-of (c .before .step-number-arg4 .given)) (c .step-number .ensures)
+      read2 (λ x y. stepNumber (getD ms k 0, x) (getD ms (k + 1) 0, y)) {w = w32} {a = getD os k (pos 0)} {b = getD os (k + 1) (pos 0)} (sfits-of (c .before .before .before .step-number-arg2 .given)) (sfits-of (c .before .step-number-arg4 .given)) (c .step-number .ensures)
 
 pub block-of-spec : {M : Type 1} → statement M
 block-of-spec =
@@ -73,7 +73,7 @@ block-of-spec =
     let p = c .before .before .before .before .before in
     let a = p .loop .inv .right in
     let k = c .before .before .before .before .loop-test .taken in
-    (omega (arith, a .rising (p .loop .k) k), a .inside (p .loop .k) k))
+    let l = a .later (p .loop .k) k in (omega (arith, l .rises), l .early))
     -- slice-aggregate-write-number-2
     (λ c. sym (c .before .before .before .before .before .before .before .loop .inv .long))
     -- write-number-requires-2

@@ -2,6 +2,7 @@
 -- Assumes nothing.
 use Prim.Native.Nat.{_<_, _+_, _-_}
 use mathlib.Core.Path.{_≡_, refl, sym, ap, _∙_}
+use mathlib.Core.List.{[]}
 use native.Mathlib.Omega.{arith}
 use lib.ListN.{drop, getD}
 use lib.IntN.{ℤ, pos}
@@ -13,17 +14,19 @@ use lib.Dec.{lit≤, lit<}
 use denote.Ref.{now}
 use borrow.Author.Needs.{needs}
 use Rattle.laws.proofs.Branches.{fails, holds}
-use Rattle.leap.specs.Leap.{tabled}
-use Rattle.block.specs.Reading.{nextOffset, firstTable, readEntries}
+use Rattle.leap.specs.Entries.{firstEntry}
+use Rattle.leap.specs.Readers.{Outcome, tableRead}
+use Rattle.leap.proofs.Readers.{after-none}
+use Rattle.block.specs.Reading.{nextOffset, readEntries}
 use Rattle.block.specs.Numbers.{readNumber}
 use Rattle.block.specs.declared.NumberAnswer.the-variants.{Number}
-use Rattle.block.proofs.Reading.{Reading, on-number, on-answer, on-fault, on-entry, on-tail, on-end}
+use Rattle.block.proofs.Reading.{Reading, month-early, offset-is, on-number, on-answer, on-fault, on-entry, on-tail, on-end}
 use Rattle.block.proofs.read_entries.Statement.{statement}
 use Rattle.block.proofs.read_entries.Tie as tie
 
 abbrev Inv-loop : tie.InvT-loop
 Inv-loop s count start months₀ offsets₀ at₀ k₀ months offsets at k =
-    Reading s (readEntries (count - 1) (firstTable count) 0 start (drop start s)) (tabled count months offsets) at k
+    Reading s (readEntries (count - 1) firstEntry start (drop start s)) count months offsets at k
 
 abbrev μ-loop : tie.MeasureT-loop
 μ-loop s count start months₀ offsets₀ at₀ k₀ months offsets at k = count - k
@@ -36,7 +39,10 @@ module _ (c : tie.After-n Inv-loop μ-loop) where
   abbrev a : tie.Start Inv-loop μ-loop
   a = p .before .before
 
-  inv : Reading (now (a .args .s)) (readEntries (a .args .count - 1) (firstTable (a .args .count)) 0 (a .args .start) (drop (a .args .start) (now (a .args .s)))) (tabled (a .args .count) (p .loop .months) (p .loop .offsets)) (p .loop .at) (p .loop .k)
+  abbrev whole : Outcome
+  whole = readEntries (a .args .count - 1) firstEntry (a .args .start) (drop (a .args .start) (now (a .args .s)))
+
+  inv : Reading (now (a .args .s)) whole (a .args .count) (p .loop .months) (p .loop .offsets) (p .loop .at) (p .loop .k)
   inv = p .loop .inv
 
   turn : p .loop .k + 1 < a .args .count
@@ -50,10 +56,18 @@ module _ (c : tie.After-n Inv-loop μ-loop) where
   before = getD (p .loop .offsets) (p .loop .k) (pos 0)
 
   small : mag before < 1000
-  small = omega (arith, inv .near)
+  small = rw (offset-is inv) (omega (arith, inv .near))
 
   there : toZ w32 (ofZ w32 before) ≡ before
   there = toZ-ofZ (record { sfits = omega (arith, small) })
+
+returns-2 : tie.Need-returns-2 Inv-loop μ-loop
+returns-2 c =
+    let p = c .before .before .before .before .before in c .refused-at2 .ensures ∙ ap tableRead (on-answer (p .loop .inv) (c .before .before .before .before .loop-test .taken) (sym (c .before .before .before .read-number .ensures) ∙ c .before .enum-told .given .1))
+
+returns-4 : tie.Need-returns-4 Inv-loop μ-loop
+returns-4 c =
+    c .refused-at4 .ensures ∙ ap tableRead (on-tail (c .before .before .before .loop .inv) (c .before .before .loop-test .left) (c .before .if2 .taken))
 
 pub read-entries-spec : {M : Type 1} → statement M
 read-entries-spec =
@@ -64,7 +78,7 @@ read-entries-spec =
     -- array-set-of-offsets
     (λ c. lit< tt)
     -- loop-holds
-    (λ c. let h = c .before .pre in record { goes = refl; inside = h .1; few = h .2; placed = h .0; early = lit≤ tt; near = lit≤ tt; months-long = refl; offsets-long = refl })
+    (λ c. let h = c .before .pre in record { prior = []; last = firstEntry; goes = after-none _; holds = record { months-are = refl; offsets-are = refl }; sized = refl; inside = h .1; few = h .2; placed = h .0; early = lit≤ tt; near = lit≤ tt })
     -- add-loop
     (λ c. omega arith)
     -- read-number-requires
@@ -76,11 +90,11 @@ read-entries-spec =
     -- array-read-before
     (λ c. omega arith)
     -- gap-fine-requires
-    (λ c κs. let n = c .before in (inv n .early, on-number (inv n) (number n) .0))
-    -- refused-requires
+    (λ c κs. let n = c .before in (month-early (inv n), on-number (inv n) (number n) .0))
+    -- refused-at-requires
     (λ c κs. tt)
     -- returns
-    (λ c. let n = c .before .before .before .before in c .refused .ensures ∙ on-fault (inv n) (turn n) (number n) (fails (c .before .before .gap-fine .ensures) (c .before .if1 .taken)))
+    (λ c. let n = c .before .before .before .before in c .refused-at .ensures ∙ ap tableRead (on-fault (inv n) (turn n) (number n) (fails (c .before .before .gap-fine .ensures) (c .before .if1 .taken))))
     -- mul-next-offset
     (λ c. omega arith)
     -- array-copy-out-next-offset
@@ -90,7 +104,7 @@ read-entries-spec =
     -- add-k
     (λ c. omega arith)
     -- add-months
-    (λ c. let n = c .before .before .before .before .before in omega (arith, inv n .early))
+    (λ c. let n = c .before .before .before .before .before in omega (arith, month-early (inv n)))
     -- mul-months
     (λ c. omega arith)
     -- array-write-months
@@ -111,19 +125,21 @@ read-entries-spec =
     rw e (on-entry (inv n) (turn n) (number n) (holds (c .before .before .before .gap-fine .ensures) (c .before .before .if1 .left))))
     -- enum-told
     (λ c. search needs)
-    -- refused-requires-2
+    -- refused-at-requires-2
     (λ c κs. tt)
     -- returns-2
-    (λ c. let p = c .before .before .before .before .before in c .refused2 .ensures ∙ on-answer (p .loop .inv) (c .before .before .before .before .loop-test .taken) (sym (c .before .before .before .read-number .ensures) ∙ c .before .enum-told .given .1))
+    returns-2
     -- enum-told-2
     (λ c. search needs)
-    -- refused-requires-3
+    -- refused-at-requires-3
     (λ c κs. tt)
     -- returns-3
-    (λ c. let p = c .before .before .before .before .before in c .refused3 .ensures ∙ on-answer (p .loop .inv) (c .before .before .before .before .loop-test .taken) (sym (c .before .before .before .read-number .ensures) ∙ c .before .enum-told2 .given .1))
-    -- refused-requires-4
+    (λ c. let p = c .before .before .before .before .before in c .refused-at3 .ensures ∙ ap tableRead (on-answer (p .loop .inv) (c .before .before .before .before .loop-test .taken) (sym (c .before .before .before .read-number .ensures) ∙ c .before .enum-told2 .given .1)))
+    -- refused-at-requires-4
     (λ c κs. tt)
     -- returns-4
-    (λ c. c .refused4 .ensures ∙ on-tail (c .before .before .before .loop .inv) (c .before .before .loop-test .left) (c .before .if2 .taken))
+    returns-4
+    -- found-requires
+    (λ c κs. tt)
     -- returns-5
-    (λ c. on-end (c .before .before .loop .inv) (c .before .loop-test .left) (c .if2 .left)))
+    (λ c. let e = c .before .before .before in c .found .ensures ∙ on-end (e .before .before .loop .inv) (e .before .loop-test .left) (e .if2 .left)))

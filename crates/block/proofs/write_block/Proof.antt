@@ -8,6 +8,12 @@ use Rattle.laws.proofs.Branches.{fails, holds, cond-yes, cond-rest}
 use Rattle.block.proofs.write_block.Statement.{statement}
 use Rattle.block.proofs.write_block.Tie as tie
 
+returns : tie.Need-returns
+returns c = let p = fails (c .before .is-accepted-in .ensures) (c .if1 .taken) in (cond-rest _ p refl, cond-rest _ p refl)
+
+block-of-requires : tie.Need-block-of-requires
+block-of-requires c κs = holds (c .before .before .before .before .is-accepted-in .ensures) (c .before .before .before .if1 .left)
+
 pub write-block-spec : {M : Type 1} → statement M
 write-block-spec =
     tie.close
@@ -15,9 +21,9 @@ write-block-spec =
     -- is-accepted-in-requires
     (λ c κs. search needs)
     -- returns
-    (λ c. let p = fails (c .before .is-accepted-in .ensures) (c .if1 .taken) in (cond-rest _ p refl, cond-rest _ p refl))
+    returns
     -- block-of-requires
-    (λ c κs. holds (c .before .before .before .before .is-accepted-in .ensures) (c .before .before .before .if1 .left))
+    block-of-requires
     -- array-share-prefix-bytes
     (λ c. search needs)
     -- slice-aggregate-write

@@ -17,6 +17,9 @@ Inv-loop count months offsets ok₀ k₀ ok k = ((count ≤ k) × (k ≤ 64)) ×
 abbrev μ-loop : tie.MeasureT-loop
 μ-loop count months offsets ok₀ k₀ ok k = 64 - k
 
+loop-holds : tie.Need-loop-holds Inv-loop μ-loop
+loop-holds c = search needs
+
 loop-again : tie.Need-loop-again Inv-loop μ-loop
 loop-again c =
     let l = c .before .before .before .before in
@@ -37,7 +40,7 @@ all-right-spec =
     Inv-loop
     μ-loop
     (λ c κs. search needs)
-    (λ c. search needs)
+    loop-holds
     (λ c. search needs)
     (λ c. search needs)
     (λ c. search needs)

@@ -5,17 +5,17 @@ use mathlib.Core.List.{List}
 use Prim.Native.Nat.{ℕ}
 use borrow.Author.Needs.{needs}
 use Rattle.leap.specs.declared.Table.{Table}
-use Rattle.block.specs.declared.BlockAnswer.{BlockAnswer}
-use Rattle.block.specs.declared.BlockRead.{BlockRead}
+use Rattle.leap.specs.declared.TableAnswer.{TableAnswer}
+use Rattle.leap.specs.declared.TableRead.{TableRead}
 use Rattle.digits.proofs.Bytes.{placed-as}
 use Rattle.listing.specs.Listing.{blockLine, afterBlock, fromStamp, fromBlock}
 use Rattle.listing.proofs.print.Statement.{statement}
 use Rattle.listing.proofs.print.Tie as tie
 
 -- what is printed after the first line's answer
-given : (second third : List ℕ) (line : List ℕ) {r : BlockRead} {a : BlockAnswer} → r ≡ blockLine line → r .answer ≡ a → afterBlock (λ t. fromStamp t second third) (r .table) a ≡ fromBlock line second third
+given : (second third : List ℕ) (line : List ℕ) {r : TableRead} {a : TableAnswer} → r ≡ blockLine line → r .answer ≡ a → afterBlock (λ t. fromStamp t second third) (r .table) a ≡ fromBlock line second third
 unfolding fromBlock
-given second third line e q = ap₂ (λ (t : Table) (x : BlockAnswer). afterBlock (λ t. fromStamp t second third) t x) (ap (λ x. x .table) e) (sym q ∙ ap (λ x. x .answer) e)
+given second third line e q = ap₂ (λ (t : Table) (x : TableAnswer). afterBlock (λ t. fromStamp t second third) t x) (ap (λ x. x .table) e) (sym q ∙ ap (λ x. x .answer) e)
 
 returns : tie.Need-returns
 returns c =

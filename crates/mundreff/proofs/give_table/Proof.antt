@@ -4,15 +4,15 @@ use mathlib.Core.Path.{_≡_, sym, ap, ap₂, _∙_}
 use mathlib.Core.List.{List}
 use Prim.Native.Nat.{ℕ}
 use borrow.Author.Needs.{needs}
-use Rattle.block.specs.declared.BlockAnswer.{BlockAnswer}
-use Rattle.block.specs.declared.BlockRead.{BlockRead}
+use Rattle.leap.specs.declared.TableAnswer.{TableAnswer}
+use Rattle.leap.specs.declared.TableRead.{TableRead}
 use Rattle.mundreff.specs.Answers.{tableNumbers}
 use Rattle.mundreff.proofs.give_table.Statement.{statement}
 use Rattle.mundreff.proofs.give_table.Tie as tie
 
 -- what is known of an answer a with b's table, said of b
-parts : (b : BlockRead) {r : ℕ × ℕ × List ℕ} {a : BlockAnswer} → b .answer ≡ a → r ≡ tableNumbers (record { answer = a; table = b .table }) → r ≡ tableNumbers b
-parts b e q = q ∙ ap (λ (a : BlockAnswer). tableNumbers (record { answer = a; table = b .table })) (sym e)
+parts : (b : TableRead) {r : ℕ × ℕ × List ℕ} {a : TableAnswer} → b .answer ≡ a → r ≡ tableNumbers (record { answer = a; table = b .table }) → r ≡ tableNumbers b
+parts b e q = q ∙ ap (λ (a : TableAnswer). tableNumbers (record { answer = a; table = b .table })) (sym e)
 
 pub give-table-spec : {M : Type 1} → statement M
 give-table-spec =

@@ -4,7 +4,7 @@ use mathlib.Core.Path.{ap, _∙_}
 use Rattle.leap.specs.declared.Table.{Table}
 use borrow.Author.Needs.{needs}
 use Rattle.answer.specs.Buffers.{writtenResults}
-use Rattle.mundreff.specs.Calls.{blockWritten, blockAfter}
+use Rattle.block.specs.Blocks.{writeBlock, writeBlockAfter}
 use Rattle.mundreff.proofs.Results.{said}
 use Rattle.mundreff.proofs.mundreff_write_block.Statement.{statement}
 use Rattle.mundreff.proofs.mundreff_write_block.Tie as tie
@@ -21,6 +21,6 @@ mundreff-write-block-spec =
     let w = c .before .before .before .before in
     let t = w .before .before in
     let buffer = t .before .before .args .out .now in (
-      said writtenResults (c .give-length .ensures) (w .write-block .ensures .0 ∙ ap (λ (u : Table). blockWritten u buffer) (t .table-of .ensures)),
-      w .write-block .ensures .1 ∙ ap (λ (u : Table). blockAfter u buffer) (t .table-of .ensures),
+      said writtenResults (c .give-length .ensures) (w .write-block .ensures .0 ∙ ap (λ (u : Table). writeBlock u buffer) (t .table-of .ensures)),
+      w .write-block .ensures .1 ∙ ap (λ (u : Table). writeBlockAfter u buffer) (t .table-of .ensures),
     )))

@@ -1,0 +1,49 @@
+-- What a reader of tables answers: the table that it found, or a refusal with its place and an all-zero table.
+-- Assumes nothing.
+use mathlib.Core.List.{List, _++_}
+use Prim.Native.Nat.{ℕ}
+use lib.IntN.{pos}
+use lib.ListN.{replicate}
+use Rattle.answer.specs.declared.Refusal.{Refusal}
+use Rattle.answer.specs.Refusals.{number}
+use Rattle.leap.specs.declared.Table.{Table}
+use Rattle.leap.specs.declared.TableAnswer.{TableAnswer}
+use Rattle.leap.specs.declared.TableAnswer.the-variants.{Read, Refused}
+use Rattle.leap.specs.declared.TableRead.{TableRead}
+use Rattle.leap.specs.Leap.{tabled}
+use Rattle.leap.specs.Entries.{Entry, tableOf}
+
+-- ---- the answers
+
+abbrev pub noTable : Table
+noTable = tabled 0 (replicate 64 0) (replicate 64 (pos 0))
+
+abbrev pub found : Table → TableRead
+found t = record { answer = Read; table = t }
+
+abbrev pub refusedAt : Refusal → ℕ → TableRead
+refusedAt why at = record { answer = Refused why at; table = noTable }
+
+-- an answer in the scope's numbers: that of the refusal and the place, both 0 on success, and the table, all zero on a refusal
+abbrev pub tableResults : TableRead → ℕ × ℕ × Table
+tableResults r = (numberAndPlace (r .answer) .0, numberAndPlace (r .answer) .1, r .table)
+  where
+    numberAndPlace : TableAnswer → ℕ × ℕ
+    numberAndPlace Read = (0, 0)
+    numberAndPlace (Refused why at) = (number why, at)
+
+-- ---- by entries
+
+-- what bytes hold: the entries of a table, or a fault and its place
+pub data Outcome : Type 0 where
+  entered : List Entry → Outcome
+  fault : Refusal → ℕ → Outcome
+
+-- with these entries before those that the rest holds
+abbrev pub after : List Entry → Outcome → Outcome
+after es (entered fs) = entered (es ++ fs)
+after es (fault why at) = fault why at
+
+abbrev pub tableRead : Outcome → TableRead
+tableRead (entered es) = found (tableOf es)
+tableRead (fault why at) = refusedAt why at
