@@ -1,4 +1,4 @@
 pub mod Spelling
 pub mod Fraction
 pub mod Patterns
-pub mod Pictured
+pub mod Promise

@@ -16,10 +16,11 @@ use Rattle.laws.proofs.Difference.{up, down, integers, le-from}
 use Rattle.laws.proofs.Placed.{over-front}
 use Rattle.answer.specs.declared.Refusal.{Refusal}
 use Rattle.answer.specs.declared.Refusal.the-variants.{Range as RANGE, Ask as ASK, Table as TABLE}
+use Rattle.answer.specs.declared.Written.{Written}
 use Rattle.answer.specs.declared.Written.the-variants.{Wrote, Refused}
 use Rattle.answer.specs.Refusals.{allPass}
-use Rattle.answer.specs.Buffers.{roomLast}
-use Rattle.answer.proofs.Orders.{none-refused, was-passed}
+use Rattle.answer.specs.Buffers.{roomLast, writtenResults}
+use Rattle.answer.proofs.Orders.{none-refused, was-passed, number-some}
 use Rattle.answer.proofs.Writers.{wrote-over}
 use Rattle.leap.specs.declared.Table.{Table}
 use Rattle.leap.specs.Leap.{accepted}
@@ -31,17 +32,17 @@ use Rattle.stamp.specs.declared.InstantAnswer.the-variants.{At, Refused as Inst
 use Rattle.stamp.specs.declared.StampAnswer.the-variants.{Stamped, Refused as StampRefused}
 use Rattle.stamp.specs.Labels.{Offsets, monthOf, secondOf, realYear, realMonth, realDay, realClock, hasSecond, asked, admitted}
 use Rattle.stamp.specs.Instants.{scaleOf, fixed, offsetsOf, mostSecond, instantOf, countOf, instantAnswer}
-use Rattle.stamp.specs.Stamps.{inRange, stampAt, stampAnswer}
+use Rattle.stamp.specs.Stamps.{inRange, stampAt, stampAnswer, stampResults}
 use Rattle.stamp.specs.Promise.{Reads, stamp}
 use Rattle.stamp.proofs.Facts.{clock-to}
 use Rattle.stamp.proofs.Ends.{instant-is, range-count}
 use Rattle.stamp.proofs.Undone.{stamp-given, undo}
-use Rattle.text.specs.Pictures.{dateText, clockText, pictureText}
-use Rattle.text.specs.Text.{dateAs, textOf, textAnswer, textResults, writeTests, textAt, writeAnswer, bufferThen}
-use Rattle.text.specs.Promise.{Gives, Names, Showable, Latest, Back, Promised}
-use Rattle.text.proofs.Spelling.{fraction-cut}
+use Rattle.pictures.specs.Pictures.{dateText, clockText, pictureText}
+use Rattle.text.specs.Text.{dateAs, textOf, readText, textResults, writeTests, textAt, writeText, writeTextAfter}
+use Rattle.text.specs.Promise.{Gives, Names, Showable, Latest, Back}
+use Rattle.pictures.proofs.Fraction.{fraction-cut}
 use Rattle.text.proofs.Answers.{stamp-reads}
-use Rattle.text.proofs.Kept.{pictured, determined, sized, exactly}
+use Rattle.text.proofs.Exactly.{exactly}
 
 -- ---- a reading cut to its first digits
 
@@ -96,7 +97,7 @@ stamp-of-reading t good k known r x q =
 
 -- ---- an instant that is written
 
-module _ (t : Table) (k : ℕ) (x : ℤ) (p d : ℕ) (buffer : List ℕ) (n : ℕ) (e : writeAnswer t x p k d buffer ≡ Wrote n) where
+module _ (t : Table) (k : ℕ) (x : ℤ) (p d : ℕ) (buffer : List ℕ) (n : ℕ) (e : writeText t x p k d buffer ≡ Wrote n) where
   text : List ℕ
   text = textAt t x p k d
 
@@ -108,7 +109,7 @@ module _ (t : Table) (k : ℕ) (x : ℤ) (p d : ℕ) (buffer : List ℕ) (n : �
   all-passed = was-passed Refused tests (Wrote (length text)) (Wrote n) (λ why q. let z : _≡_ {A = ℕ} 0 1 = cc in omega arith) e .0
 
   -- the front of the buffer is the text
-  front : take n (bufferThen t x p k d buffer) ≡ text
+  front : take n (writeTextAfter t x p k d buffer) ≡ text
   unfolding tests text
   front =
       let w = wrote-over (writeTests t x p k d) text buffer n e in
@@ -165,8 +166,8 @@ module _ (t : Table) (k : ℕ) (x : ℤ) (p d : ℕ) (buffer : List ℕ) (n : �
         reads = cut-reads;
       }
 
-  answer : Gives t k (take n (bufferThen t x p k d buffer)) y (stamp (scaleOf k) r′)
-  answer = ap (λ (l : List ℕ). textResults (textAnswer t k l)) front ∙ exactly t k text .each y r′ names
+  answer : Gives t k (take n (writeTextAfter t x p k d buffer)) y (stamp (scaleOf k) r′)
+  answer = ap (λ (l : List ℕ). textResults (readText t k l)) front ∙ exactly t k text .each y r′ names
 
   -- what is cut lies between the two
   apart : up y + (down x + r .micro % 10 ^ (6 - d)) ≡ up x + down y
@@ -192,6 +193,11 @@ module _ (t : Table) (k : ℕ) (x : ℤ) (p d : ℕ) (buffer : List ℕ) (n : �
   latest =
       record { showable = record { reading = r′; reads = cut-reads; enough = cut-shown d (r .micro) few }; not-after = le-from y x (omega (arith, apart)); last = last }
 
+-- number 0 is no refusal's
+wrote : (a : Written) (n : ℕ) → writtenResults a ≡ (0, n) → a ≡ Wrote n
+wrote (Wrote m) n e = ap (λ v. Wrote (v .1)) e
+wrote (Refused why) n e = absurd (number-some why (ap (λ v. v .0) e))
+
 -- with six digits nothing is cut
 whole : (r : Reading) → cutTo 6 r ≡ r
 unfolding cutTo
@@ -201,14 +207,10 @@ pub back : (t : Table) (k : ℕ) → Back t k
 unfolding r r′ y sc
 back t k =
     record {
-      six = λ x p buffer n e.
+      six = λ x p buffer n q.
+          let e = wrote (writeText t x p k 6 buffer) n q in
           let z = stampAt t (scaleOf k) x in
           let f = whole (z .reading) in
-          (z, stamped t k x p 6 buffer n e, answer t k x p 6 buffer n e ∙ ap (λ (a : Reading). (0, instantOf t (scaleOf k) a, stamp (scaleOf k) a)) f ∙ ap (λ (i : ℤ). (0, i, z)) (reads t k x p 6 buffer n e .instant-is));
-      cut = λ x p d buffer n e. (y t k x p d buffer n e, stamp (scaleOf k) (r′ t k x p d buffer n e), answer t k x p d buffer n e, latest t k x p d buffer n e);
+          (z, ap stampResults (stamped t k x p 6 buffer n e), answer t k x p 6 buffer n e ∙ ap (λ (a : Reading). (0, instantOf t (scaleOf k) a, stamp (scaleOf k) a)) f ∙ ap (λ (i : ℤ). (0, i, z)) (reads t k x p 6 buffer n e .instant-is));
+      cut = λ x p d buffer n q. let e = wrote (writeText t x p k d buffer) n q in (y t k x p d buffer n e, stamp (scaleOf k) (r′ t k x p d buffer n e), answer t k x p d buffer n e, latest t k x p d buffer n e);
     }
-
--- ---- all of it
-
-pub promised : (t : Table) (k : ℕ) → Promised t k
-promised t k = record { pictures = pictured; determined = determined; sized = sized; exactly = exactly t k; back = back t k }

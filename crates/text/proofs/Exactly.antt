@@ -1,7 +1,7 @@
--- The promises on pictures and on reading are kept.
+-- The promises on a text's length and on reading are kept.
 -- Assumes nothing.
 use mathlib.Core.Path.{_≡_, refl, sym, ap, ap₂, subst, _∙_}
-use mathlib.Core.Bool.{cond}
+use mathlib.Core.Bool.{true, cond}
 use mathlib.Core.List.{List}
 use Prim.Native.Nat.{ℕ, zero, suc, _+_, _*_, _/_, _-_, _%_, _^_, _≤_}
 use native.Mathlib.Omega.{arith}
@@ -11,6 +11,7 @@ use lib.IntN.{ℤ}
 use lib.ListN.{length, length-take}
 use Rattle.laws.proofs.Cases.{and-l, and-r, join}
 use Rattle.answer.specs.declared.Refusal.{Refusal}
+use Rattle.answer.specs.declared.Refusal.the-variants.{Shape as SHAPE}
 use Rattle.answer.proofs.Orders.{none-refused, was-passed, number-some}
 use Rattle.calendar.specs.declared.YearDate.{YearDate}
 use Rattle.calendar.specs.declared.YearDate.the-variants.{On, Nothing}
@@ -20,31 +21,28 @@ use Rattle.calendar.specs.Dates.{dateInYear}
 use Rattle.months.proofs.Laws.{length-most, rise}
 use Rattle.calendar.proofs.Years.{date-back, day-back}
 use Rattle.leap.specs.declared.Table.{Table}
+use Rattle.leap.specs.Leap.{accepted}
+use Rattle.pictures.specs.declared.Date.{Date}
+use Rattle.pictures.specs.declared.Date.the-variants.{Numbered, OfYear, Named}
+use Rattle.pictures.specs.declared.Fields.{Fields}
+use Rattle.pictures.specs.declared.FieldsAnswer.{FieldsAnswer}
+use Rattle.pictures.specs.declared.FieldsAnswer.the-variants.{Shows, NoPicture}
+use Rattle.pictures.specs.Pictures.{fractionText, pictureText, DateFits, WellFormed}
+use Rattle.pictures.specs.Reading.{readFields}
+use Rattle.pictures.proofs.Promise.{shown, back}
 use Rattle.stamp.specs.declared.Reading.{Reading}
 use Rattle.stamp.specs.declared.Stamp.{Stamp}
 use Rattle.stamp.specs.Labels.{Offsets, monthOf, asked}
-use Rattle.stamp.specs.Instants.{scaleOf, offsetsOf, mostSecond, instantOf}
+use Rattle.stamp.specs.Instants.{scaleOf, called, offsetsOf, mostSecond, instantOf}
 use Rattle.stamp.specs.Promise.{stamp}
 use Rattle.stamp.proofs.Facts.{most-sixty}
-use Rattle.text.specs.declared.Date.{Date}
-use Rattle.text.specs.declared.Date.the-variants.{Numbered, OfYear, Named}
-use Rattle.text.specs.declared.Fields.{Fields}
 use Rattle.text.specs.declared.TextAnswer.{TextAnswer}
 use Rattle.text.specs.declared.TextAnswer.the-variants.{Read, Refused}
-use Rattle.text.specs.Pictures.{fractionText, pictureText, DateFits, WellFormed}
-use Rattle.text.specs.Guess.{guessed, hasPicture}
-use Rattle.text.specs.Text.{on, dateOr, dateOf, readingOf, readAnswer, readTests, textAnswer, textResults, dateAs, fieldsOf}
-use Rattle.text.specs.Promise.{Pictured, Determined, Sized, Names, Exactly}
-use Rattle.text.proofs.Pictured.{picture-is, has-picture}
+use Rattle.text.specs.Text.{on, dateOr, monthDayOf, readingOf, readAnswer, fieldsRead, readText, textResults, dateAs, fieldsOf}
+use Rattle.text.specs.Promise.{Sized, Names, Exactly}
 use Rattle.stamp.proofs.Admitted.{Admitted, admitted-to}
 
--- ---- pictures
-
-pub pictured : (text : List ℕ) → Pictured text
-pictured text = record { shown = picture-is text; none = λ e f w q. let h = sym e ∙ ap hasPicture q ∙ has-picture f w .0 in let z : _≡_ {A = ℕ} 0 1 = cc in omega arith }
-
-pub determined : Determined
-determined f g v w e = sym (has-picture f v .1) ∙ ap guessed e ∙ has-picture g w .1
+-- ---- length
 
 fraction-size : (k u : ℕ) → k ≤ 6 → length (fractionText k u) ≡ cond (eqb k 0) 0 (1 + k)
 fraction-size zero u h = refl
@@ -100,7 +98,7 @@ day-again y d = go (dateInYear y d) refl
     go (On r) e h = day-back y d r e .1
     go Nothing e h = absurd (omega arith)
 
-fields-back : (y h mi s k u : ℕ) (d : Date) → 1 ≤ dateOf y d .month → let f : Fields = record { year = y; date = d; hour = h; minute = mi; second = s; digits = k; micro = u } in fieldsOf (picture-of d) k (readingOf f) ≡ f
+fields-back : (y h mi s k u : ℕ) (d : Date) → 1 ≤ monthDayOf y d .month → let f : Fields = record { year = y; date = d; hour = h; minute = mi; second = s; digits = k; micro = u } in fieldsOf (picture-of d) k (readingOf f) ≡ f
 unfolding picture-of
 fields-back y h mi s k u (Numbered m d) e = refl
 fields-back y h mi s k u (OfYear d) e = rw (day-again y d e)
@@ -109,18 +107,17 @@ fields-back y h mi s k u (Named m d) e = refl
 -- ---- reading
 
 module _ (t : Table) (k : ℕ) (text : List ℕ) where
-  pub reads-as : (x : ℤ) (r : Reading) → Names t k text x r → textAnswer t k text ≡ Read x (stamp (scaleOf k) r)
-  unfolding textAnswer
+  pub reads-as : (x : ℤ) (r : Reading) → Names t k text x r → readText t k text ≡ Read x (stamp (scaleOf k) r)
+  unfolding readText
   reads-as x r n =
       let o = offsetsOf t (scaleOf k) in
       let most = mostSecond (scaleOf k) in
       let a = admitted-to o most r (n .reads .is-admitted) in
       let s = n .shows in
       let w = well-formed o most r a (most-sixty (scaleOf k)) (s .picture) (s .digits) (s .a-picture) (s .a-number) (s .enough) in
-      let p = has-picture (fieldsOf (s .picture) (s .digits) r) w in
-      let e : readingOf (guessed text) ≡ r = ap (λ (l : List ℕ). readingOf (guessed l)) (s .text-is) ∙ ap readingOf (p .1) ∙ reading-back o most r a (most-sixty (scaleOf k)) (s .picture) (s .digits) (s .a-picture) in
-      none-refused Refused (readTests t k text) _ (join (le-leb k 3 (n .known)) (join (n .good) (join (ap hasPicture (s .text-is) ∙ p .0) refl)))
-      ∙ ap (readAnswer t (scaleOf k)) e
+      none-refused Refused (called t k) _ (join (le-leb k 3 (n .known)) (join (n .good) refl))
+      ∙ ap (fieldsRead t k) (ap readFields (s .text-is) ∙ back (fieldsOf (s .picture) (s .digits) r) w)
+      ∙ ap (readAnswer t (scaleOf k)) (reading-back o most r a (most-sixty (scaleOf k)) (s .picture) (s .digits) (s .a-picture))
       ∙ none-refused Refused (asked o most r) _ (n .reads .is-admitted)
       ∙ ap (λ (y : ℤ). Read y (stamp (scaleOf k) r)) (n .reads .instant-is)
 
@@ -132,22 +129,20 @@ module _ (t : Table) (k : ℕ) (text : List ℕ) where
   given (Read y u) x z e = ap₂ Read (ap (λ v. v .1) e) (ap (λ v. v .2) e)
   given (Refused why) x z e = absurd (number-some why (ap (λ v. v .0) e))
 
-  only : (x : ℤ) (z : Stamp) → textAnswer t k text ≡ Read x z → (z .scale ≡ scaleOf k) × Names t k text x (z .reading)
-  unfolding textAnswer
-  only x z e =
-      let f = guessed text in
+  -- fields that are accepted
+  judged : (f : Fields) (x : ℤ) (z : Stamp) → k ≤ 3 → accepted t ≡ true → WellFormed f × (text ≡ pictureText f) → readAnswer t (scaleOf k) (readingOf f) ≡ Read x z
+      → (z .scale ≡ scaleOf k) × Names t k text x (z .reading)
+  judged f x z known good w e =
       let r = readingOf f in
       let o = offsetsOf t (scaleOf k) in
       let most = mostSecond (scaleOf k) in
-      let p = was-passed Refused (readTests t k text) (readAnswer t (scaleOf k) r) (Read x z) (no-read x z) e in
-      let q = was-passed Refused (asked o most r) (Read (instantOf t (scaleOf k) r) (stamp (scaleOf k) r)) (Read x z) (no-read x z) (p .1) in
+      let q = was-passed Refused (asked o most r) (Read (instantOf t (scaleOf k) r) (stamp (scaleOf k) r)) (Read x z) (no-read x z) e in
       let same : stamp (scaleOf k) r ≡ z = is-stamp (q .1) in
-      let w = picture-is text (search (and-l, and-r)) in
       let a = admitted-to o most r (q .0) in
       let names : Names t k text x r =
       record {
-        known = leb-true k 3 (and-l (leb k 3) _ (p .0));
-        good = search (and-l, and-r);
+        known = known;
+        good = good;
         shows = record { picture = picture-of (f .date); digits = f .digits; a-picture = a-picture (f .date); a-number = w .0 .digits; enough = w .0 .shown; text-is = w .1 ∙ ap pictureText (sym (fields-back (f .year) (f .hour) (f .minute) (f .second) (f .digits) (f .micro) (f .date) (a .exists .month-low))) };
         reads = record { is-admitted = q .0; instant-is = is-instant (q .1) };
       } in
@@ -159,5 +154,15 @@ module _ (t : Table) (k : ℕ) (text : List ℕ) where
       is-instant : {y : ℤ} {u : Stamp} → Read y u ≡ Read x z → y ≡ x
       is-instant q = cc
 
+  only : (x : ℤ) (z : Stamp) → readText t k text ≡ Read x z → (z .scale ≡ scaleOf k) × Names t k text x (z .reading)
+  unfolding readText
+  only x z e =
+      let p = was-passed Refused (called t k) (fieldsRead t k (readFields text)) (Read x z) (no-read x z) e in
+      go (leb-true k 3 (and-l (leb k 3) _ (p .0))) (search (and-l, and-r)) (readFields text) refl (p .1)
+    where
+      go : k ≤ 3 → accepted t ≡ true → (a : FieldsAnswer) → readFields text ≡ a → fieldsRead t k a ≡ Read x z → (z .scale ≡ scaleOf k) × Names t k text x (z .reading)
+      go known good (Shows f) q e = judged f x z known good (shown text f q) e
+      go known good NoPicture q e = absurd (no-read x z SHAPE e)
+
   pub exactly : Exactly t k text
-  exactly = record { only = λ x z e. only x z (given (textAnswer t k text) x z e); each = λ x r n. ap textResults (reads-as x r n) }
+  exactly = record { only = λ x z e. only x z (given (readText t k text) x z e); each = λ x r n. ap textResults (reads-as x r n) }
