@@ -8,7 +8,7 @@ ghost use Rattle.stamp.specs.Instants.{instantAnswer, instantResults};
 ghost use Rattle.stamp.specs.Stamps.{stampAnswer};
 ghost use Rattle.clock.specs.Clock.{startAnswer, tickAnswer};
 ghost use Rattle.block.specs.Reading.{blockResults, readBlock};
-ghost use Rattle.text.specs.Text.{textAnswer, writeAnswer, bufferThen};
+ghost use Rattle.text.specs.Text.{readText, writeText, writeTextAfter};
 ghost use Rattle.julian.specs.Dates.{julianAnswer, dateAnswer};
 ghost use Rattle.mundreff.specs.Answers.{stampFields, stampNumbers, textNumbers, labelNumbers, pairNumbers};
 ghost use Rattle.mundreff.specs.Calls.{labelFrom, scaleFrom, readingFrom, pair, blockWritten, blockAfter};
@@ -310,7 +310,7 @@ pub extern "C" fn mundreff_read_text<'a, 'b>(
     instant: &'b mut i64,
     stamp: &'b mut [u32; 8],
 ) -> u32
-    ensures { λ r. ⌜ (r, now (instant .exit), now (stamp .exit)) ≡ textNumbers (textAnswer (tabled count (now (months .entry)) (now (offsets .entry))) scale (now (text .entry))) ⌝ }
+    ensures { λ r. ⌜ (r, now (instant .exit), now (stamp .exit)) ≡ textNumbers (readText (tabled count (now (months .entry)) (now (offsets .entry))) scale (now (text .entry))) ⌝ }
 {
     let a = text::read_text(table_of(count, months, offsets), scale, text);
     give_text(a, instant, stamp)
@@ -328,8 +328,8 @@ pub extern "C" fn mundreff_write_text<'a>(
     out: &mut [u8],
     length: &mut usize,
 ) -> u32
-    ensures { λ r. ⌜ (r, now (length .exit)) ≡ writtenResults (writeAnswer (tabled count (now (months .entry)) (now (offsets .entry))) instant picture scale digits (now (out .entry))) ⌝ }
-    ensures { λ _. ⌜ now (out .exit) ≡ bufferThen (tabled count (now (months .entry)) (now (offsets .entry))) instant picture scale digits (now (out .entry)) ⌝ }
+    ensures { λ r. ⌜ (r, now (length .exit)) ≡ writtenResults (writeText (tabled count (now (months .entry)) (now (offsets .entry))) instant picture scale digits (now (out .entry))) ⌝ }
+    ensures { λ _. ⌜ now (out .exit) ≡ writeTextAfter (tabled count (now (months .entry)) (now (offsets .entry))) instant picture scale digits (now (out .entry)) ⌝ }
 {
     let t = table_of(count, months, offsets);
     let a = text::write_text(t, instant, picture, scale, digits, out);
