@@ -21,9 +21,12 @@ use Rattle.stamp.specs.Instants.{instantOf}
 use Rattle.stamp.specs.Promise.{stamp}
 use Rattle.clock.specs.Clock.{whole}
 use Rattle.clock.specs.Promise.{admits}
+use Rattle.pictures.specs.declared.Fields.{Fields}
+use Rattle.pictures.specs.declared.FieldsAnswer.{FieldsAnswer}
+use Rattle.pictures.specs.declared.FieldsAnswer.the-variants.{Shows, NoPicture}
+use Rattle.pictures.specs.Reading.{readFields}
 use Rattle.text.specs.declared.TextAnswer.the-variants.{Read, Refused as NotRead}
-use Rattle.text.specs.Guess.{guessed, hasPicture}
-use Rattle.text.specs.Text.{readingOf, readAnswer, textAnswer}
+use Rattle.text.specs.Text.{readingOf, readAnswer, fieldsRead, readText}
 use Rattle.digits.specs.declared.Number.{Number}
 use Rattle.digits.specs.declared.Number.the-variants.{Is, Bad}
 use Rattle.digits.specs.Decimals.{Within, decimalOf}
@@ -60,15 +63,21 @@ module _ (t : Table) (line : List ℕ) {x : ℤ} {z : Stamp} where
   not-refused : (why : Refusal) → NotRead why ≡ Read x z → ⊥
   not-refused why e = let z : _≡_ {A = ℕ} 0 1 = cc in omega arith
 
-  text-good : textAnswer t 0 line ≡ Read x z → (accepted t ≡ true) × (admits t (z .reading .label) ≡ true)
-  unfolding textAnswer
-  text-good e =
-      let r = readingOf (guessed line) in
-      let a = was-passed NotRead ((true, ASK) ∷ (accepted t, TABLE) ∷ (hasPicture line, SHAPE) ∷ []) (readAnswer t Utc r) (Read x z) not-refused e in
-      let b = was-passed NotRead (asked (offsetAt t) 60 r) (Read (instantOf t Utc r) (stamp Utc r)) (Read x z) not-refused (a .1) in
+  -- fields that are accepted are those of an admitted label
+  fields-good : (a : FieldsAnswer) → fieldsRead t 0 a ≡ Read x z → admits t (z .reading .label) ≡ true
+  fields-good (Shows f) e =
+      let r = readingOf f in
+      let b = was-passed NotRead (asked (offsetAt t) 60 r) (Read (instantOf t Utc r) (stamp Utc r)) (Read x z) not-refused e in
       let q : stamp Utc r ≡ z = cc (b .1) in
-      (both (accepted t) (hasPicture line && true) (a .0) .0, subst (λ (y : Stamp). admits t (y .reading .label) ≡ true) q (whole-admitted (offsetAt t) r (b .0)))
+      subst (λ (y : Stamp). admits t (y .reading .label) ≡ true) q (whole-admitted (offsetAt t) r (b .0))
+  fields-good NoPicture e = absurd (not-refused SHAPE e)
+
+  text-good : readText t 0 line ≡ Read x z → (accepted t ≡ true) × (admits t (z .reading .label) ≡ true)
+  unfolding readText
+  text-good e =
+      let a = was-passed NotRead ((true, ASK) ∷ (accepted t, TABLE) ∷ []) (fieldsRead t 0 (readFields line)) (Read x z) not-refused e in
+      (both (accepted t) true (a .0) .0, fields-good (readFields line) (a .1))
 
   pub stamp-good : stampLine t line ≡ Read x z → (accepted t ≡ true) × (admits t (z .reading .label) ≡ true)
   unfolding stampLine
-  stamp-good e = text-good (was-passed NotRead ((short line, SHAPE) ∷ (without 46 line, SHAPE) ∷ []) (textAnswer t 0 line) (Read x z) not-refused e .1)
+  stamp-good e = text-good (was-passed NotRead ((short line, SHAPE) ∷ (without 46 line, SHAPE) ∷ []) (readText t 0 line) (Read x z) not-refused e .1)

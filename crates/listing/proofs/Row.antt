@@ -23,8 +23,8 @@ use Rattle.stamp.specs.Promise.{stamp}
 use Rattle.stamp.proofs.Undone.{stamp-back, stamp-given}
 use Rattle.clock.specs.Clock.{whole}
 use Rattle.clock.specs.Promise.{admits}
-use Rattle.text.specs.Pictures.{pictureText}
-use Rattle.text.specs.Text.{textOf, textAt, bufferThen}
+use Rattle.pictures.specs.Pictures.{pictureText}
+use Rattle.text.specs.Text.{textOf, textAt, writeTextAfter}
 use Rattle.digits.specs.Bytes.{Appended, Placed}
 use Rattle.digits.specs.Decimals.{signedText}
 use Rattle.digits.proofs.Bytes.{placed, placed-then}
@@ -64,7 +64,7 @@ module _ (t : Table) (l : Label) (good : accepted t ≡ true) (there : admits t 
         ap (λ y. quotZ y (pos 1000000)) (q ∙ w) ∙ millions z
 
     -- the picture written to a buffer of its size
-    pub picture-is : (buffer : List ℕ) → length buffer ≡ 19 → bufferThen t x 0 0 0 buffer ≡ textOf 0 0 (whole l)
+    pub picture-is : (buffer : List ℕ) → length buffer ≡ 19 → writeTextAfter t x 0 0 0 buffer ≡ textOf 0 0 (whole l)
     picture-is buffer n =
         let g = stamp-given t 0 x (stamp Utc (whole l)) (stamp-back t 0 (whole l) x e) in
         let v : textAt t x 0 0 0 ≡ textOf 0 0 (whole l) = ap (λ z. textOf 0 0 (z .reading)) (g .1 .1 .1) in

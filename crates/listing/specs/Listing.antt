@@ -23,8 +23,8 @@ use Rattle.leap.specs.Readers.{refusedAt}
 use Rattle.block.specs.Reading.{readBlock}
 use Rattle.text.specs.declared.TextAnswer.{TextAnswer}
 use Rattle.text.specs.declared.TextAnswer.the-variants.{Read, Refused as NotRead}
-use Rattle.text.specs.Pictures.{ascii}
-use Rattle.text.specs.Text.{textOf, textAnswer}
+use Rattle.digits.specs.Bytes.{ascii}
+use Rattle.text.specs.Text.{textOf, readText}
 use Rattle.digits.specs.declared.Number.{Number}
 use Rattle.digits.specs.declared.Number.the-variants.{Is, Bad}
 use Rattle.lines.specs.Words.{before}
@@ -56,7 +56,7 @@ blockLine line =
 
 -- a UTC stamp without fraction: no point (46) stands in it
 unfoldable pub stampLine : Table → List ℕ → TextAnswer
-stampLine t line = refusing NotRead ((short line, SHAPE) ∷ (without 46 line, SHAPE) ∷ []) (textAnswer t 0 line)
+stampLine t line = refusing NotRead ((short line, SHAPE) ∷ (without 46 line, SHAPE) ∷ []) (readText t 0 line)
 
 -- a count up to 3600: plain digits
 abbrev pub asCount : Number → CountAnswer

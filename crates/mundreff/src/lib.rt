@@ -11,7 +11,7 @@ ghost use Rattle.stamp.specs.Instants.{instantAnswer, instantResults};
 ghost use Rattle.stamp.specs.Stamps.{stampAnswer};
 ghost use Rattle.clock.specs.Clock.{startAnswer, tickAnswer};
 ghost use Rattle.block.specs.Reading.{readBlock};
-ghost use Rattle.text.specs.Text.{textAnswer, writeAnswer, bufferThen};
+ghost use Rattle.text.specs.Text.{readText, writeText, writeTextAfter};
 ghost use Rattle.julian.specs.Dates.{julianAnswer, dateAnswer};
 ghost use Rattle.mundreff.specs.Words.{offsetFrom, offsetWord, wordsAt, tableFrom, tableWords};
 ghost use Rattle.mundreff.specs.Answers.{tableNumbers, stampFields, stampNumbers, textNumbers, labelNumbers, pairNumbers};
@@ -366,7 +366,7 @@ pub extern "C" fn mundreff_read_text<'a>(
     instant: &'a mut i64,
     stamp: &'a mut [u32; 8],
 ) -> u32
-    ensures { λ r. ⌜ (r, now (instant .exit), now (stamp .exit)) ≡ textNumbers (textAnswer (tableFrom (now (table .entry))) scale (now (text .entry))) ⌝ }
+    ensures { λ r. ⌜ (r, now (instant .exit), now (stamp .exit)) ≡ textNumbers (readText (tableFrom (now (table .entry))) scale (now (text .entry))) ⌝ }
 {
     let a = text::read_text(table_of(table), scale, text);
     give_text(a, instant, stamp)
@@ -382,8 +382,8 @@ pub extern "C" fn mundreff_write_text(
     out: &mut [u8],
     length: &mut usize,
 ) -> u32
-    ensures { λ r. ⌜ (r, now (length .exit)) ≡ writtenResults (writeAnswer (tableFrom (now (table .entry))) instant picture scale digits (now (out .entry))) ⌝ }
-    ensures { λ _. ⌜ now (out .exit) ≡ bufferThen (tableFrom (now (table .entry))) instant picture scale digits (now (out .entry)) ⌝ }
+    ensures { λ r. ⌜ (r, now (length .exit)) ≡ writtenResults (writeText (tableFrom (now (table .entry))) instant picture scale digits (now (out .entry))) ⌝ }
+    ensures { λ _. ⌜ now (out .exit) ≡ writeTextAfter (tableFrom (now (table .entry))) instant picture scale digits (now (out .entry)) ⌝ }
 {
     let t = table_of(table);
     let a = text::write_text(t, instant, picture, scale, digits, out);

@@ -23,7 +23,7 @@ use Rattle.block.specs.Blocks.{blockOf}
 use Rattle.block.specs.Reading.{readBlock}
 use Rattle.block.specs.Blocks.{tests}
 use Rattle.text.specs.declared.TextAnswer.{TextAnswer}
-use Rattle.text.specs.Text.{textAnswer, writeAnswer, bufferThen}
+use Rattle.text.specs.Text.{readText, writeText, writeTextAfter}
 use Rattle.julian.specs.declared.JulianAnswer.{JulianAnswer}
 use Rattle.julian.specs.declared.JulianDate.{JulianDate}
 use Rattle.julian.specs.Dates.{julianAnswer, dateAnswer}
@@ -49,8 +49,8 @@ pub record Settled : Type 0 where
   pub write-block : (t : Table) (buffer : List ℕ) → AtMostOne (λ (r : Wrote). (r .0 ≡ written (tests t) (blockOf t) buffer) × (r .1 ≡ bufferAfter (tests t) (blockOf t) buffer))
   pub instant-of : (t : Table) (scale : ℕ) (r : Reading) → AtMostOne (λ (a : InstantAnswer). a ≡ instantAnswer t scale r)
   pub stamp-of : (t : Table) (instant : ℤ) (scale : ℕ) → AtMostOne (λ (a : StampAnswer). a ≡ stampAnswer t instant scale)
-  pub read-text : (t : Table) (scale : ℕ) (text : List ℕ) → AtMostOne (λ (a : TextAnswer). a ≡ textAnswer t scale text)
-  pub write-text : (t : Table) (instant : ℤ) (picture scale digits : ℕ) (buffer : List ℕ) → AtMostOne (λ (r : Wrote). (r .0 ≡ writeAnswer t instant picture scale digits buffer) × (r .1 ≡ bufferThen t instant picture scale digits buffer))
+  pub read-text : (t : Table) (scale : ℕ) (text : List ℕ) → AtMostOne (λ (a : TextAnswer). a ≡ readText t scale text)
+  pub write-text : (t : Table) (instant : ℤ) (picture scale digits : ℕ) (buffer : List ℕ) → AtMostOne (λ (r : Wrote). (r .0 ≡ writeText t instant picture scale digits buffer) × (r .1 ≡ writeTextAfter t instant picture scale digits buffer))
   pub write-julian : (t : Table) (instant : ℤ) (scale : ℕ) → AtMostOne (λ (a : JulianAnswer). a ≡ julianAnswer t instant scale)
   pub read-julian : (t : Table) (scale : ℕ) (date : JulianDate) → AtMostOne (λ (a : InstantAnswer). a ≡ dateAnswer t scale date)
   pub start : (t : Table) → AtMostOne (λ (a : TickAnswer). a ≡ startAnswer t)
@@ -64,8 +64,8 @@ pub record SettledInC : Type 0 where
   pub write-block : (table buffer : List ℕ) → AtMostOne (λ (r : WroteInC). (r .0 ≡ writtenResults (writeBlock (tableFrom table) buffer)) × (r .1 ≡ writeBlockAfter (tableFrom table) buffer))
   pub instant-of : (table stamp : List ℕ) → AtMostOne (λ (r : ℕ × ℤ). r ≡ instantResults (instantAnswer (tableFrom table) (scaleFrom stamp) (readingFrom stamp)))
   pub stamp-of : (table : List ℕ) (instant : ℤ) (scale : ℕ) → AtMostOne (λ (r : ℕ × List ℕ). r ≡ stampNumbers (stampAnswer (tableFrom table) instant scale))
-  pub read-text : (table : List ℕ) (scale : ℕ) (text : List ℕ) → AtMostOne (λ (r : ℕ × ℤ × List ℕ). r ≡ textNumbers (textAnswer (tableFrom table) scale text))
-  pub write-text : (table : List ℕ) (instant : ℤ) (picture scale digits : ℕ) (buffer : List ℕ) → AtMostOne (λ (r : WroteInC). (r .0 ≡ writtenResults (writeAnswer (tableFrom table) instant picture scale digits buffer)) × (r .1 ≡ bufferThen (tableFrom table) instant picture scale digits buffer))
+  pub read-text : (table : List ℕ) (scale : ℕ) (text : List ℕ) → AtMostOne (λ (r : ℕ × ℤ × List ℕ). r ≡ textNumbers (readText (tableFrom table) scale text))
+  pub write-text : (table : List ℕ) (instant : ℤ) (picture scale digits : ℕ) (buffer : List ℕ) → AtMostOne (λ (r : WroteInC). (r .0 ≡ writtenResults (writeText (tableFrom table) instant picture scale digits buffer)) × (r .1 ≡ writeTextAfter (tableFrom table) instant picture scale digits buffer))
   pub write-julian : (table : List ℕ) (instant : ℤ) (scale : ℕ) → AtMostOne (λ (r : ℕ × Float × Float). r ≡ pairNumbers (julianAnswer (tableFrom table) instant scale))
   pub read-julian : (table : List ℕ) (scale : ℕ) (midnight fraction : Float) → AtMostOne (λ (r : ℕ × ℤ). r ≡ instantResults (dateAnswer (tableFrom table) scale (pair midnight fraction)))
   pub start : (table : List ℕ) → AtMostOne (λ (r : ℕ × List ℕ). r ≡ labelNumbers (startAnswer (tableFrom table)))

@@ -11,8 +11,8 @@ use Rattle.leap.specs.Leap.{bulletinC}
 use Rattle.leap.specs.Desk.{T, N}
 use Rattle.leap.specs.Readers.{noTable, tableResults}
 use Rattle.block.specs.Reading.{readBlock}
-use Rattle.text.specs.Pictures.{ascii}
-use Rattle.text.specs.Text.{textAnswer, textResults}
+use Rattle.digits.specs.Bytes.{ascii}
+use Rattle.text.specs.Text.{readText, textResults}
 
 pub data Row : Type 0 where
   -- a stamp on a scale under a table is this instant
@@ -48,8 +48,8 @@ rows =
     ∷ []
 
 abbrev pub Right : Row → Type 0
-Right (gives t k s x) = (textResults (textAnswer t k (ascii s)) .0 ≡ 0) × (textResults (textAnswer t k (ascii s)) .1 ≡ x)
-Right (refused t k s number) = textResults (textAnswer t k (ascii s)) .0 ≡ number
+Right (gives t k s x) = (textResults (readText t k (ascii s)) .0 ≡ 0) × (textResults (readText t k (ascii s)) .1 ≡ x)
+Right (refused t k s number) = textResults (readText t k (ascii s)) .0 ≡ number
 Right (faulty s number place) = tableResults (readBlock s) ≡ (number, place, noTable)
 
 abbrev pub AllRight : List Row → Type 0

@@ -1,6 +1,5 @@
-pub mod Spelling
-pub mod Pictured
 pub mod Answers
-pub mod Kept
-pub mod ReadBack
-pub mod Worked
+pub mod Exactly
+pub mod Back
+pub mod Promise
+pub mod Desk

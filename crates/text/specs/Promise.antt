@@ -1,5 +1,5 @@
--- What is promised of text: which texts have a picture, what each accepted text is read as, and that what is written reads back.
--- Nothing but `Pictured` speaks of the reader's own steps.
+-- What is promised of text, in the scope's numbers: how long a text is, what each accepted text is read as, and that what is written reads back.
+-- Nothing here speaks of the reader's own steps; which texts have a picture is promised by `pictures`.
 -- Assumes nothing.
 use mathlib.Core.Path.{_≡_}
 use mathlib.Core.Bool.{true, false, cond}
@@ -9,33 +9,18 @@ use lib.Dec.{eqb}
 use lib.IntN.{ℤ}
 use lib.ListN.{length, take, getD}
 use lib.Signed.{_≤ℤ_}
-use Rattle.answer.specs.declared.Written.the-variants.{Wrote}
+use Rattle.answer.specs.Buffers.{writtenResults}
 use Rattle.leap.specs.declared.Table.{Table}
 use Rattle.leap.specs.Leap.{accepted}
 use Rattle.stamp.specs.declared.Scale.{Scale}
 use Rattle.stamp.specs.declared.Reading.{Reading}
 use Rattle.stamp.specs.declared.Stamp.{Stamp}
-use Rattle.stamp.specs.declared.StampAnswer.the-variants.{Stamped}
 use Rattle.stamp.specs.Instants.{scaleOf}
-use Rattle.stamp.specs.Stamps.{stampAnswer}
+use Rattle.stamp.specs.Stamps.{stampAnswer, stampResults}
 use Rattle.stamp.specs.Promise.{Reads, stamp}
-use Rattle.text.specs.declared.Fields.{Fields}
-use Rattle.text.specs.Pictures.{pictureText, WellFormed}
-use Rattle.text.specs.Guess.{guessed, hasPicture}
-use Rattle.text.specs.Text.{textOf, textAnswer, textResults, writeAnswer, bufferThen}
+use Rattle.text.specs.Text.{textOf, readText, textResults, writeText, writeTextAfter}
 
--- ---- pictures
-
--- the test for SHAPE, and the fields that are judged after it
-pub record Pictured (text : List ℕ) : Type 0 where
-  -- a text that passes is that of the fields which are judged
-  pub shown : hasPicture text ≡ true → WellFormed (guessed text) × (text ≡ pictureText (guessed text))
-  -- one that does not is the text of no fields
-  pub none : hasPicture text ≡ false → (f : Fields) → WellFormed f → text ≡ pictureText f → ⊥
-
--- the text of a picture determines its fields
-abbrev pub Determined : Type 0
-Determined = (f g : Fields) → WellFormed f → WellFormed g → pictureText f ≡ pictureText g → f ≡ g
+-- ---- length
 
 -- how long a text is: the scope's length of its picture, and the point with its digits
 abbrev pub Sized : Type 0
@@ -54,7 +39,7 @@ pub record Shows (text : List ℕ) (r : Reading) : Type 0 where
 
 -- read under table t on scale k the text gives number 0, the instant x and the stamp z
 abbrev pub Gives : Table → ℕ → List ℕ → ℤ → Stamp → Type 0
-Gives t k text x z = textResults (textAnswer t k text) ≡ (0, x, z)
+Gives t k text x z = textResults (readText t k text) ≡ (0, x, z)
 
 -- on scale k the text names the moment r, which exists there and is the instant x
 pub record Names (t : Table) (k : ℕ) (text : List ℕ) (x : ℤ) (r : Reading) : Type 0 where
@@ -85,17 +70,14 @@ pub record Latest (t : Table) (s : Scale) (digits : ℕ) (x y : ℤ) : Type 0 wh
 -- in any picture, on any scale, in any buffer that has room
 pub record Back (t : Table) (k : ℕ) : Type 0 where
   -- with six digits the text reads back as the instant, with its stamp
-  pub six : (x : ℤ) (p : ℕ) (buffer : List ℕ) (n : ℕ) → writeAnswer t x p k 6 buffer ≡ Wrote n
-      → (z : Stamp) × (stampAnswer t x k ≡ Stamped z) × Gives t k (take n (bufferThen t x p k 6 buffer)) x z
+  pub six : (x : ℤ) (p : ℕ) (buffer : List ℕ) (n : ℕ) → writtenResults (writeText t x p k 6 buffer) ≡ (0, n)
+      → (z : Stamp) × (stampResults (stampAnswer t x k) ≡ (0, z)) × Gives t k (take n (writeTextAfter t x p k 6 buffer)) x z
   -- with any number of digits as the last instant not after it that they can show
-  pub cut : (x : ℤ) (p digits : ℕ) (buffer : List ℕ) (n : ℕ) → writeAnswer t x p k digits buffer ≡ Wrote n
-      → (y : ℤ) × (z : Stamp) × Gives t k (take n (bufferThen t x p k digits buffer)) y z × Latest t (scaleOf k) digits x y
+  pub cut : (x : ℤ) (p digits : ℕ) (buffer : List ℕ) (n : ℕ) → writtenResults (writeText t x p k digits buffer) ≡ (0, n)
+      → (y : ℤ) × (z : Stamp) × Gives t k (take n (writeTextAfter t x p k digits buffer)) y z × Latest t (scaleOf k) digits x y
 
 -- ---- all of it, for each table and scale number
 
 pub record Promised (t : Table) (k : ℕ) : Type 0 where
-  pub pictures : (text : List ℕ) → Pictured text
-  pub determined : Determined
-  pub sized : Sized
   pub exactly : (text : List ℕ) → Exactly t k text
   pub back : Back t k

@@ -1,7 +1,7 @@
 -- The calls: what a text is read as, and what is written for an instant.
 -- Assumes nothing.
 use mathlib.Core.Bool.{Bool, cond, _&&_}
-use mathlib.Core.List.{List, [], _∷_, _++_}
+use mathlib.Core.List.{List, [], _∷_}
 use Prim.Native.Nat.{ℕ}
 use lib.Dec.{eqb, leb}
 use lib.IntN.{ℤ, pos}
@@ -17,6 +17,13 @@ use Rattle.calendar.specs.Days.{dayOfYear}
 use Rattle.calendar.specs.Dates.{dateInYear}
 use Rattle.leap.specs.declared.Table.{Table}
 use Rattle.leap.specs.Leap.{accepted}
+use Rattle.pictures.specs.declared.Date.{Date}
+use Rattle.pictures.specs.declared.Date.the-variants.{Numbered, OfYear, Named}
+use Rattle.pictures.specs.declared.Fields.{Fields}
+use Rattle.pictures.specs.declared.FieldsAnswer.{FieldsAnswer}
+use Rattle.pictures.specs.declared.FieldsAnswer.the-variants.{Shows, NoPicture}
+use Rattle.pictures.specs.Pictures.{pictureText}
+use Rattle.pictures.specs.Reading.{readFields}
 use Rattle.stamp.specs.declared.Scale.{Scale}
 use Rattle.stamp.specs.declared.Label.{Label}
 use Rattle.stamp.specs.declared.Reading.{Reading}
@@ -25,13 +32,8 @@ use Rattle.stamp.specs.Labels.{label, monthOf, asked}
 use Rattle.stamp.specs.Instants.{scaleOf, knownScale, called, offsetsOf, mostSecond, instantOf}
 use Rattle.stamp.specs.Stamps.{inRange, stampAt, noStamp}
 use Rattle.stamp.specs.Promise.{stamp}
-use Rattle.text.specs.declared.Date.{Date}
-use Rattle.text.specs.declared.Date.the-variants.{Numbered, OfYear, Named}
-use Rattle.text.specs.declared.Fields.{Fields}
 use Rattle.text.specs.declared.TextAnswer.{TextAnswer}
 use Rattle.text.specs.declared.TextAnswer.the-variants.{Read, Refused}
-use Rattle.text.specs.Pictures.{pictureText}
-use Rattle.text.specs.Guess.{guessed, hasPicture}
 
 -- ---- reading
 
@@ -44,15 +46,15 @@ dateOr (On r) = r
 dateOr Nothing = on 0 0
 
 -- the month and the day of a date in year y
-abbrev pub dateOf : ℕ → Date → MonthDay
-dateOf y (Numbered m d) = on m d
-dateOf y (OfYear d) = dateOr (dateInYear y d)
-dateOf y (Named m d) = on m d
+abbrev pub monthDayOf : ℕ → Date → MonthDay
+monthDayOf y (Numbered m d) = on m d
+monthDayOf y (OfYear d) = dateOr (dateInYear y d)
+monthDayOf y (Named m d) = on m d
 
 abbrev pub readingOf : Fields → Reading
 readingOf f =
     record {
-      label = label (f .year) (dateOf (f .year) (f .date) .month) (dateOf (f .year) (f .date) .day) (f .hour) (f .minute) (f .second);
+      label = label (f .year) (monthDayOf (f .year) (f .date) .month) (monthDayOf (f .year) (f .date) .day) (f .hour) (f .minute) (f .second);
       micro = f .micro;
     }
 
@@ -60,12 +62,14 @@ readingOf f =
 abbrev pub readAnswer : Table → Scale → Reading → TextAnswer
 readAnswer t s r = refusing Refused (asked (offsetsOf t s) (mostSecond s) r) (Read (instantOf t s r) (stamp s r))
 
--- `read_text`: what is asked before that, in this order, and the answer
-abbrev pub readTests : Table → ℕ → List ℕ → List (Bool × Refusal)
-readTests t k text = called t k ++ (hasPicture text, SHAPE) ∷ []
+-- the fields of a text are judged; a text that has no picture is SHAPE
+abbrev pub fieldsRead : Table → ℕ → FieldsAnswer → TextAnswer
+fieldsRead t k (Shows f) = readAnswer t (scaleOf k) (readingOf f)
+fieldsRead t k NoPicture = Refused SHAPE
 
-unfoldable pub textAnswer : Table → ℕ → List ℕ → TextAnswer
-textAnswer t k text = refusing Refused (readTests t k text) (readAnswer t (scaleOf k) (readingOf (guessed text)))
+-- `read_text`: what every call asks first, and then the text
+unfoldable pub readText : Table → ℕ → List ℕ → TextAnswer
+readText t k text = refusing Refused (called t k) (fieldsRead t k (readFields text))
 
 -- an answer in the scope's numbers: that of the refusal, 0 on success, the instant and the stamp, all zero on a refusal
 abbrev pub textResults : TextAnswer → ℕ × ℤ × Stamp
@@ -96,8 +100,8 @@ abbrev pub textAt : Table → ℤ → ℕ → ℕ → ℕ → List ℕ
 textAt t x p k digits = textOf p digits (stampAt t (scaleOf k) x .reading)
 
 -- its answer, and the lent buffer afterwards
-abbrev pub writeAnswer : Table → ℤ → ℕ → ℕ → ℕ → List ℕ → Written
-writeAnswer t x p k digits buffer = written (writeTests t x p k digits) (textAt t x p k digits) buffer
+abbrev pub writeText : Table → ℤ → ℕ → ℕ → ℕ → List ℕ → Written
+writeText t x p k digits buffer = written (writeTests t x p k digits) (textAt t x p k digits) buffer
 
-abbrev pub bufferThen : Table → ℤ → ℕ → ℕ → ℕ → List ℕ → List ℕ
-bufferThen t x p k digits buffer = bufferAfter (writeTests t x p k digits) (textAt t x p k digits) buffer
+abbrev pub writeTextAfter : Table → ℤ → ℕ → ℕ → ℕ → List ℕ → List ℕ
+writeTextAfter t x p k digits buffer = bufferAfter (writeTests t x p k digits) (textAt t x p k digits) buffer

@@ -3,7 +3,7 @@
 use mathlib.Core.Path.{ap, _∙_}
 use borrow.Author.Needs.{needs}
 use Rattle.leap.specs.declared.Table.{Table}
-use Rattle.text.specs.Text.{textAnswer}
+use Rattle.text.specs.Text.{readText}
 use Rattle.mundreff.specs.Answers.{textNumbers}
 use Rattle.mundreff.proofs.Results.{said}
 use Rattle.mundreff.proofs.mundreff_read_text.Statement.{statement}
@@ -21,4 +21,4 @@ mundreff-read-text-spec =
     let t = r .before in
     let a = t .before .before .args in
     said textNumbers (c .give-text .ensures)
-    (r .read-text .ensures ∙ ap (λ (u : Table). textAnswer u (a .scale) (a .text .now)) (t .table-of .ensures))))
+    (r .read-text .ensures ∙ ap (λ (u : Table). readText u (a .scale) (a .text .now)) (t .table-of .ensures))))

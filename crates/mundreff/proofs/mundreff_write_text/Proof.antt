@@ -5,7 +5,7 @@ use lib.IntN.{ℤ}
 use mir.Facts.{toZ-ofZ}
 use borrow.Author.Needs.{needs}
 use Rattle.leap.specs.declared.Table.{Table}
-use Rattle.text.specs.Text.{writeAnswer, bufferThen}
+use Rattle.text.specs.Text.{writeText, writeTextAfter}
 use Rattle.answer.specs.Buffers.{writtenResults}
 use Rattle.mundreff.proofs.Results.{said}
 use Rattle.mundreff.proofs.mundreff_write_text.Statement.{statement}
@@ -25,6 +25,6 @@ mundreff-write-text-spec =
     let a = t .before .before .args in
     let x = toZ-ofZ (t .before .before .fits .instant) in (
       said writtenResults (c .give-length .ensures)
-          (w .write-text .ensures .0 ∙ ap₂ (λ (u : Table) (x : ℤ). writeAnswer u x (a .picture) (a .scale) (a .digits) (a .out .now)) (t .table-of .ensures) x),
-      w .write-text .ensures .1 ∙ ap₂ (λ (u : Table) (x : ℤ). bufferThen u x (a .picture) (a .scale) (a .digits) (a .out .now)) (t .table-of .ensures) x,
+          (w .write-text .ensures .0 ∙ ap₂ (λ (u : Table) (x : ℤ). writeText u x (a .picture) (a .scale) (a .digits) (a .out .now)) (t .table-of .ensures) x),
+      w .write-text .ensures .1 ∙ ap₂ (λ (u : Table) (x : ℤ). writeTextAfter u x (a .picture) (a .scale) (a .digits) (a .out .now)) (t .table-of .ensures) x,
     )))

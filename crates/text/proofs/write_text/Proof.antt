@@ -12,7 +12,7 @@ use Rattle.stamp.specs.declared.Stamp.{Stamp}
 use Rattle.stamp.specs.declared.StampAnswer.{StampAnswer}
 use Rattle.stamp.specs.Stamps.{stampAnswer}
 use Rattle.stamp.proofs.Undone.{stamp-given}
-use Rattle.text.specs.Pictures.{pictureText}
+use Rattle.pictures.specs.Pictures.{pictureText}
 use Rattle.text.specs.Text.{textOf, writeTests, textAt}
 use Rattle.text.proofs.Answers.{asWritten, write-as, stamp-plain}
 use Rattle.text.proofs.write_text.Statement.{statement}

@@ -1,0 +1,4 @@
+pub mod Spelling
+pub mod Fraction
+pub mod Patterns
+pub mod Promise

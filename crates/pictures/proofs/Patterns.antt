@@ -1,0 +1,87 @@
+-- Patterns: byte by byte, from the front, and at a place.
+-- Assumes nothing.
+use mathlib.Core.Path.{_≡_, refl, sym, ap, ap₂, _∙_}
+use mathlib.Core.Bool.{Bool, true, false, _&&_, _||_}
+use mathlib.Core.Logic.{_⊎_, inl, inr, ⊎-elim}
+use mathlib.Core.List.{List, [], _∷_, _++_}
+use Prim.Native.Nat.{ℕ, zero, suc, _+_, _≤_, _<_}
+use native.Mathlib.Nat.{le-of-suc-le-suc, not-suc-le-zero}
+use native.Mathlib.Numerals.{add-one}
+use native.Mathlib.Omega.{arith}
+use borrow.Author.Tests.{eqb-true, leb-true}
+use lib.Dec.{eqb, leb}
+use lib.ListN.{length, take, drop, getD, drop-of-length-le}
+use lib.Seq.{drop-cons, take-length}
+use Rattle.laws.proofs.Cases.{and-l, and-r, one-of}
+use Rattle.digits.specs.Decimals.{digitValue}
+use Rattle.pictures.specs.Reading.{asShown, like, filled, rightLength}
+
+and-assoc : (a b c : Bool) → ((a && b) && c) ≡ (a && (b && c))
+and-assoc true b c = refl
+and-assoc false b c = refl
+
+and-true : (a : Bool) → (a && true) ≡ a
+and-true true = refl
+and-true false = refl
+
+pub and-false : (a : Bool) → (a && false) ≡ false
+and-false true = refl
+and-false false = refl
+
+-- one byte more
+pub like-step : (cs s : List ℕ) (fine : Bool) (i : ℕ) → i < length cs → i < length s
+    → ((fine && asShown (getD cs i 0) (getD s i 0)) && like (drop (i + 1) cs) (drop (i + 1) s)) ≡ (fine && like (drop i cs) (drop i s))
+unfolding like
+like-step cs s fine i h g = rw (add-one, drop-cons cs i 0, drop-cons s i 0) (and-assoc fine _ _)
+
+pub like-end : (cs s : List ℕ) (fine : Bool) (i : ℕ) → length cs ≤ i → length s ≤ i → (fine && like (drop i cs) (drop i s)) ≡ fine
+unfolding like
+like-end cs s fine i h g = rw (drop-of-length-le cs h, drop-of-length-le s g) (and-true fine)
+
+pub like-length : (cs s : List ℕ) → like cs s ≡ true → length s ≡ length cs
+unfolding like
+like-length [] [] e = refl
+like-length [] (b ∷ s) e = cc
+like-length (c ∷ cs) [] e = cc
+like-length (c ∷ cs) (b ∷ s) e = ap suc (like-length cs s (and-r (asShown c b) _ e))
+
+pub like-at : (cs s : List ℕ) (k : ℕ) → like cs s ≡ true → k < length cs → asShown (getD cs k 0) (getD s k 0) ≡ true
+unfolding like
+like-at [] s k e h = absurd (not-suc-le-zero h)
+like-at (c ∷ cs) [] k e h = cc
+like-at (c ∷ cs) (b ∷ s) zero e h = and-l _ (like cs s) e
+like-at (c ∷ cs) (b ∷ s) (suc k) e h = like-at cs s k (and-r (asShown c b) _ e) (le-of-suc-le-suc h)
+
+-- a byte that is not as shown
+pub unlike : (cs s : List ℕ) (k : ℕ) → k < length cs → asShown (getD cs k 0) (getD s k 0) ≡ false → like cs s ≡ false
+unfolding like
+unlike [] s k h e = absurd (not-suc-le-zero h)
+unlike (c ∷ cs) [] k h e = refl
+unlike (c ∷ cs) (b ∷ s) zero h e = rw e
+unlike (c ∷ cs) (b ∷ s) (suc k) h e = rw (unlike cs s k (le-of-suc-le-suc h) e) (and-false (asShown c b))
+
+-- the digits of a pattern count nothing
+abbrev pub countless : List ℕ → Bool
+countless [] = true
+countless (c ∷ cs) = eqb (digitValue c) 0 && countless cs
+
+pub counts-none : (cs : List ℕ) → countless cs ≡ true → (k : ℕ) → digitValue (getD cs k 0) ≡ 0
+unfolding digitValue
+counts-none [] e k = refl
+counts-none (c ∷ cs) e zero = eqb-true (digitValue c) 0 (and-l _ (countless cs) e)
+counts-none (c ∷ cs) e (suc k) = counts-none cs (and-r (eqb (digitValue c) 0) _ e) k
+
+-- ---- the text in full
+
+-- as a copy of the text leaves the pattern
+pub is-filled : (cs s : List ℕ) {t : List ℕ} → t ≡ take (length s) s ++ drop (length s) cs → t ≡ filled cs s
+is-filled cs s e = e ∙ ap (λ (l : List ℕ). l ++ drop (length s) cs) (take-length s)
+
+-- how long a text with a picture is
+pub lengths : (n size : ℕ) → rightLength n size ≡ true → (size ≡ n) ⊎ ((n + 2 ≤ size) × (size ≤ n + 7))
+lengths n size e =
+    ⊎-elim (λ p. inl (eqb-true size n p)) (λ p. inr (leb-true (n + 2) size (and-l _ (leb size (n + 7)) p), leb-true size (n + 7) (and-r (leb (n + 2) size) _ p)))
+    (one-of (eqb size n) (leb (n + 2) size && leb size (n + 7)) e)
+
+pub length-most : (n size : ℕ) → rightLength n size ≡ true → size ≤ n + 7
+length-most n size e = ⊎-elim (λ p. omega arith) (λ p. omega arith) (lengths n size e)

@@ -1,0 +1,4 @@
+pub mod Pictures
+pub mod Parts
+pub mod Reading
+pub mod Promise

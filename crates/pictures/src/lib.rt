@@ -1,0 +1,396 @@
+// Pictures: the three forms of a text, from fields to bytes and back. A picture knows no table and no scale.
+ghost use mathlib.Core.Path.{_≡_};
+ghost use mathlib.Core.List.{[], _++_};
+ghost use Prim.Native.Nat.{_+_, _-_, min, _≤_, _<_};
+ghost use lib.ListN.{length};
+ghost use Rattle.laws.specs.Placed.{place};
+ghost use Rattle.answer.specs.Buffers.{written, bufferAfter};
+ghost use Rattle.digits.specs.Decimals.{isDigit, digitValue, number};
+ghost use Rattle.pictures.specs.Pictures.{dateText, clockText, fractionText, pictureText};
+ghost use Rattle.pictures.specs.Parts.{Holds};
+ghost use Rattle.pictures.specs.Reading.{asShown, like, rightLength, fieldsIn, readNumbered, readOfYear, readNamed, readFields};
+use answer::Written;
+
+// The date of a picture: month and day, day of the year, or month by name and day.
+pub enum Date {
+    Numbered(u32, u32),
+    OfYear(u32),
+    Named(u32, u32),
+}
+
+// What a text shows: its date says its picture, and `digits` are those after the point.
+pub struct Fields {
+    pub year: u32,
+    pub date: Date,
+    pub hour: u32,
+    pub minute: u32,
+    pub second: u32,
+    pub digits: u32,
+    pub micro: u32,
+}
+
+pub enum FieldsAnswer {
+    Shows(Fields),
+    NoPicture,
+}
+
+// ---- from fields to text
+
+// The text of a date: the first `len` of the bytes.
+struct DatePart {
+    bytes: [u8; 12],
+    len: usize,
+}
+
+// A whole text, likewise.
+struct Line {
+    bytes: [u8; 27],
+    len: usize,
+}
+
+// yyyy-mm-ddT
+fn numbered(year: u32, month: u32, day: u32) -> DatePart
+    ensures { λ r. ⌜ Holds (r .bytes) (r .len) 12 (dateText year (Date.Numbered month day)) ⌝ }
+{
+    let y = digits::digits(year);
+    let m = digits::digits(month);
+    let d = digits::digits(day);
+    let bytes = [
+        y[2],
+        y[3],
+        y[4],
+        y[5],
+        b'-',
+        m[4],
+        m[5],
+        b'-',
+        d[4],
+        d[5],
+        b'T',
+        0,
+    ];
+    DatePart { bytes, len: 11 }
+}
+
+// yyyy-dddT
+fn of_year(year: u32, day: u32) -> DatePart
+    ensures { λ r. ⌜ Holds (r .bytes) (r .len) 12 (dateText year (Date.OfYear day)) ⌝ }
+{
+    let y = digits::digits(year);
+    let d = digits::digits(day);
+    let bytes = [
+        y[2],
+        y[3],
+        y[4],
+        y[5],
+        b'-',
+        d[3],
+        d[4],
+        d[5],
+        b'T',
+        0,
+        0,
+        0,
+    ];
+    DatePart { bytes, len: 9 }
+}
+
+// yyyy MON dd and a blank
+fn named(year: u32, month: u32, day: u32) -> DatePart
+    ensures { λ r. ⌜ Holds (r .bytes) (r .len) 12 (dateText year (Date.Named month day)) ⌝ }
+{
+    let y = digits::digits(year);
+    let d = digits::digits(day);
+    let name = digits::month_name(month);
+    let bytes = [
+        y[2],
+        y[3],
+        y[4],
+        y[5],
+        b' ',
+        name[0],
+        name[1],
+        name[2],
+        b' ',
+        d[4],
+        d[5],
+        b' ',
+    ];
+    DatePart { bytes, len: 12 }
+}
+
+fn date_shown(year: u32, date: Date) -> DatePart
+    ensures { λ r. ⌜ Holds (r .bytes) (r .len) 12 (dateText year date) ⌝ }
+{
+    match date {
+        Date::Numbered(m, d) => numbered(year, m, d),
+        Date::OfYear(d) => of_year(year, d),
+        Date::Named(m, d) => named(year, m, d),
+    }
+}
+
+// hh:mm:ss.uuuuuu
+fn clock(hour: u32, minute: u32, second: u32, micro: u32) -> [u8; 15]
+    ensures { λ r. ⌜ r ≡ clockText hour minute second ++ fractionText 6 micro ⌝ }
+{
+    let h = digits::digits(hour);
+    let m = digits::digits(minute);
+    let s = digits::digits(second);
+    let u = digits::digits(micro);
+    [
+        h[4],
+        h[5],
+        b':',
+        m[4],
+        m[5],
+        b':',
+        s[4],
+        s[5],
+        b'.',
+        u[0],
+        u[1],
+        u[2],
+        u[3],
+        u[4],
+        u[5],
+    ]
+}
+
+// How much of it is shown.
+fn clock_length(digits: u32) -> usize
+    ensures { λ r. ⌜ (digits ≡ 0 → r ≡ 8) × (0 < digits → r ≡ 9 + min 6 digits) × (r ≤ 15) ⌝ }
+{
+    if digits == 0 {
+        return 8;
+    }
+    if digits < 6 {
+        return digits as usize + 9;
+    }
+    15
+}
+
+// Stores the bytes of src from index `at` on.
+fn put(out: &mut [u8], at: usize, src: &[u8])
+    requires { ⌜ at + length (now src) ≤ length (now out) ⌝ }
+    ensures { λ _. ⌜ now (out .exit) ≡ place (now (out .entry)) at (now (src .entry)) ⌝ }
+{
+    bytes::copy(src, &mut out[at..]);
+}
+
+// Two texts, the one behind the other.
+fn joined(a: &[u8], b: &[u8]) -> Line
+    requires { ⌜ length (now a) + length (now b) ≤ 27 ⌝ }
+    ensures { λ r. ⌜ Holds (r .bytes) (r .len) 27 (now (a .entry) ++ now (b .entry)) ⌝ }
+{
+    let mut bytes = [0u8; 27];
+    put(&mut bytes, 0, a);
+    put(&mut bytes, a.len(), b);
+    Line {
+        bytes,
+        len: a.len() + b.len(),
+    }
+}
+
+fn shown(f: Fields) -> Line
+    ensures { λ r. ⌜ Holds (r .bytes) (r .len) 27 (pictureText f) ⌝ }
+{
+    let date = f.date;
+    let part = date_shown(f.year, date);
+    let d = part.bytes;
+    let k = part.len;
+    let c = clock(f.hour, f.minute, f.second, f.micro);
+    let n = clock_length(f.digits);
+    joined(&d[..k], &c[..n])
+}
+
+// Writes the text of fields to the front of a lent buffer.
+pub fn write_fields(f: Fields, out: &mut [u8]) -> Written
+    ensures { λ r. ⌜ (r ≡ written [] (pictureText f) (now (out .entry))) × (now (out .exit) ≡ bufferAfter [] (pictureText f) (now (out .entry))) ⌝ }
+{
+    let line = shown(f);
+    let t = line.bytes;
+    let n = line.len;
+    answer::write(&t[..n], out)
+}
+
+// ---- from text to fields
+
+fn is_digit(b: u8) -> bool
+    ensures { λ r. ⌜ r ≡ isDigit b ⌝ }
+{
+    if b < b'0' {
+        return false;
+    }
+    b <= b'9'
+}
+
+// What a digit stands for, 0 for any other byte.
+fn value(b: u8) -> u32
+    ensures { λ r. ⌜ (r ≡ digitValue b) × (r ≤ 9) ⌝ }
+{
+    if is_digit(b) {
+        return (b - b'0') as u32;
+    }
+    0
+}
+
+// The number that two bytes spell.
+fn two_at(t: &[u8], i: usize) -> u32
+    requires { ⌜ i + 2 ≤ length (now t) ⌝ }
+    ensures { λ r. ⌜ (r ≡ number (now (t .entry)) i 2) × (r ≤ 99) ⌝ }
+{
+    value(t[i]) * 10 + value(t[i + 1])
+}
+
+fn three_at(t: &[u8], i: usize) -> u32
+    requires { ⌜ i + 3 ≤ length (now t) ⌝ }
+    ensures { λ r. ⌜ r ≡ number (now (t .entry)) i 3 ⌝ }
+{
+    two_at(t, i) * 10 + value(t[i + 2])
+}
+
+fn four_at(t: &[u8], i: usize) -> u32
+    requires { ⌜ i + 4 ≤ length (now t) ⌝ }
+    ensures { λ r. ⌜ (r ≡ number (now (t .entry)) i 4) × (r ≤ 9999) ⌝ }
+{
+    two_at(t, i) * 100 + two_at(t, i + 2)
+}
+
+fn six_at(t: &[u8], i: usize) -> u32
+    requires { ⌜ i + 6 ≤ length (now t) ⌝ }
+    ensures { λ r. ⌜ r ≡ number (now (t .entry)) i 6 ⌝ }
+{
+    four_at(t, i) * 100 + two_at(t, i + 4)
+}
+
+// A byte is as a pattern shows it.
+fn as_shown(c: u8, b: u8) -> bool
+    ensures { λ r. ⌜ r ≡ asShown c b ⌝ }
+{
+    if c == b'0' {
+        return is_digit(b);
+    }
+    if c == b'?' {
+        return true;
+    }
+    c == b
+}
+
+fn is_like(pattern: &[u8], text: &[u8]) -> bool
+    requires { ⌜ length (now pattern) ≡ length (now text) ⌝ }
+    ensures { λ r. ⌜ r ≡ like (now (pattern .entry)) (now (text .entry)) ⌝ }
+{
+    let mut fine = true;
+    let mut i = 0;
+    while i < text.len() {
+        fine = fine & as_shown(pattern[i], text[i]);
+        i += 1;
+    }
+    fine
+}
+
+// n bytes, or a point and one to six digits behind them.
+fn right_length(n: usize, size: usize) -> bool
+    requires { ⌜ n ≤ 20 ⌝ }
+    ensures { λ r. ⌜ r ≡ rightLength n size ⌝ }
+{
+    if size == n {
+        return true;
+    }
+    if size < n + 2 {
+        return false;
+    }
+    size <= n + 7
+}
+
+// How many digits a text shows.
+fn digits_shown(size: usize, before: usize) -> u32
+    requires { ⌜ size ≤ 27 ⌝ }
+    ensures { λ r. ⌜ r ≡ size - before ⌝ }
+{
+    if size <= before {
+        return 0;
+    }
+    (size - before) as u32
+}
+
+// The fields of a text in full, with the clock from `at` on.
+fn fields_in(t: &[u8], at: usize, digits: u32, date: Date) -> Fields
+    requires { ⌜ (4 ≤ at) × (at + 15 ≤ length (now t)) ⌝ }
+    ensures { λ r. ⌜ r ≡ fieldsIn (now (t .entry)) at digits date ⌝ }
+{
+    Fields {
+        year: four_at(t, 0),
+        date,
+        hour: two_at(t, at),
+        minute: two_at(t, at + 3),
+        second: two_at(t, at + 6),
+        digits,
+        micro: six_at(t, at + 9),
+    }
+}
+
+fn read_numbered(text: &[u8]) -> FieldsAnswer
+    ensures { λ r. ⌜ r ≡ readNumbered (now (text .entry)) ⌝ }
+{
+    if !right_length(19, text.len()) {
+        return FieldsAnswer::NoPicture;
+    }
+    let mut t = *b"0000-00-00T00:00:00.000000";
+    bytes::copy(text, &mut t);
+    if !is_like(b"0000-00-00T00:00:00.000000", &t) {
+        return FieldsAnswer::NoPicture;
+    }
+    let digits = digits_shown(text.len(), 20);
+    let date = Date::Numbered(two_at(&t, 5), two_at(&t, 8));
+    FieldsAnswer::Shows(fields_in(&t, 11, digits, date))
+}
+
+fn read_of_year(text: &[u8]) -> FieldsAnswer
+    ensures { λ r. ⌜ r ≡ readOfYear (now (text .entry)) ⌝ }
+{
+    if !right_length(17, text.len()) {
+        return FieldsAnswer::NoPicture;
+    }
+    let mut t = *b"0000-000T00:00:00.000000";
+    bytes::copy(text, &mut t);
+    if !is_like(b"0000-000T00:00:00.000000", &t) {
+        return FieldsAnswer::NoPicture;
+    }
+    let digits = digits_shown(text.len(), 18);
+    let date = Date::OfYear(three_at(&t, 5));
+    FieldsAnswer::Shows(fields_in(&t, 9, digits, date))
+}
+
+fn read_named(text: &[u8]) -> FieldsAnswer
+    ensures { λ r. ⌜ r ≡ readNamed (now (text .entry)) ⌝ }
+{
+    if !right_length(20, text.len()) {
+        return FieldsAnswer::NoPicture;
+    }
+    let mut t = *b"0000 ??? 00 00:00:00.000000";
+    bytes::copy(text, &mut t);
+    if !is_like(b"0000 ??? 00 00:00:00.000000", &t) {
+        return FieldsAnswer::NoPicture;
+    }
+    let month = digits::month_named(t[5], t[6], t[7]);
+    if month < 1 {
+        return FieldsAnswer::NoPicture;
+    }
+    let digits = digits_shown(text.len(), 21);
+    let date = Date::Named(month, two_at(&t, 9));
+    FieldsAnswer::Shows(fields_in(&t, 12, digits, date))
+}
+
+// What a text shows, if it has a picture.
+pub fn read_fields(text: &[u8]) -> FieldsAnswer
+    ensures { λ r. ⌜ r ≡ readFields (now (text .entry)) ⌝ }
+{
+    if let FieldsAnswer::Shows(f) = read_numbered(text) {
+        return FieldsAnswer::Shows(f);
+    }
+    if let FieldsAnswer::Shows(f) = read_of_year(text) {
+        return FieldsAnswer::Shows(f);
+    }
+    read_named(text)
+}
