@@ -11,8 +11,8 @@ ghost use Rattle.julian.specs.Dates.{dateOf, microOf, julianAnswer, date
 use answer::Refusal;
 use leap::Table;
 use stamp::InstantAnswer;
-use stamp::Label;
-use stamp::Reading;
+use labels::Label;
+use labels::Reading;
 use stamp::Scale;
 use stamp::StampAnswer;
 

@@ -13,13 +13,12 @@ use Rattle.answer.specs.declared.Refusal.the-variants.{Shape as SHAPE, Ask as A
 use Rattle.answer.proofs.Orders.{was-passed}
 use Rattle.leap.specs.declared.Table.{Table}
 use Rattle.leap.specs.Leap.{accepted, offsetAt}
-use Rattle.stamp.specs.declared.Reading.{Reading}
+use Rattle.labels.specs.declared.Reading.{Reading}
 use Rattle.stamp.specs.declared.Stamp.{Stamp}
 use Rattle.stamp.specs.declared.Scale.the-variants.{Utc}
-use Rattle.stamp.specs.Labels.{Offsets, realYear, realMonth, realDay, realClock, hasSecond, asked, admitted}
-use Rattle.stamp.specs.Instants.{instantOf}
+use Rattle.labels.specs.Labels.{Offsets, realYear, realMonth, realDay, realClock, hasSecond, labelTests, admitted, whole}
+use Rattle.stamp.specs.Stamps.{instantFor}
 use Rattle.stamp.specs.Promise.{stamp}
-use Rattle.clock.specs.Clock.{whole}
 use Rattle.clock.specs.Promise.{admits}
 use Rattle.pictures.specs.declared.Fields.{Fields}
 use Rattle.pictures.specs.declared.FieldsAnswer.{FieldsAnswer}
@@ -67,7 +66,7 @@ module _ (t : Table) (line : List ℕ) {x : ℤ} {z : Stamp} where
   fields-good : (a : FieldsAnswer) → fieldsRead t 0 a ≡ Read x z → admits t (z .reading .label) ≡ true
   fields-good (Shows f) e =
       let r = readingOf f in
-      let b = was-passed NotRead (asked (offsetAt t) 60 r) (Read (instantOf t Utc r) (stamp Utc r)) (Read x z) not-refused e in
+      let b = was-passed NotRead (labelTests (offsetAt t) 60 r) (Read (instantFor t Utc r) (stamp Utc r)) (Read x z) not-refused e in
       let q : stamp Utc r ≡ z = cc (b .1) in
       subst (λ (y : Stamp). admits t (y .reading .label) ≡ true) q (whole-admitted (offsetAt t) r (b .0))
   fields-good NoPicture e = absurd (not-refused SHAPE e)

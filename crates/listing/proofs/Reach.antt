@@ -13,7 +13,7 @@ use lib.Seq.{take-nil}
 use Rattle.laws.proofs.Cases.{by-order}
 use Rattle.answer.specs.declared.Refusal.the-variants.{Shape as SHAPE}
 use Rattle.leap.specs.declared.Table.{Table}
-use Rattle.stamp.specs.declared.Label.{Label}
+use Rattle.labels.specs.declared.Label.{Label}
 use Rattle.leap.specs.declared.TableAnswer.{TableAnswer}
 use Rattle.leap.specs.declared.TableAnswer.the-variants.{Read as BlockGood, Refused as BlockBad}
 use Rattle.text.specs.declared.TextAnswer.{TextAnswer}

@@ -14,14 +14,15 @@ use Rattle.answer.proofs.Orders.{none-refused}
 use Rattle.leap.specs.declared.Table.{Table}
 use Rattle.leap.specs.Leap.{accepted, offsetAt}
 use Rattle.stamp.specs.declared.Scale.the-variants.{Utc}
-use Rattle.stamp.specs.declared.Label.{Label}
-use Rattle.stamp.specs.declared.Reading.{Reading}
+use Rattle.labels.specs.declared.Label.{Label}
+use Rattle.labels.specs.declared.Reading.{Reading}
 use Rattle.stamp.specs.declared.InstantAnswer.the-variants.{At, Refused}
-use Rattle.stamp.specs.Labels.{asked, monthOf, secondOf}
-use Rattle.stamp.specs.Instants.{instantAt, instantOf, instantAnswer}
+use Rattle.labels.specs.Labels.{labelTests, monthOf, whole}
+use Rattle.labels.specs.Seconds.{secondOf}
+use Rattle.stamp.specs.Instants.{instantAt}
+use Rattle.stamp.specs.Stamps.{instantFor, instantOf}
 use Rattle.stamp.specs.Promise.{stamp}
 use Rattle.stamp.proofs.Undone.{stamp-back, stamp-given}
-use Rattle.clock.specs.Clock.{whole}
 use Rattle.clock.specs.Promise.{admits}
 use Rattle.pictures.specs.Pictures.{pictureText}
 use Rattle.text.specs.Text.{textOf, textAt, writeTextAfter}
@@ -45,22 +46,22 @@ unfolding pictureText
 picture-size r = refl
 
 module _ (t : Table) (l : Label) (good : accepted t ≡ true) (there : admits t l ≡ true) where
-  pub has-instant : instantAnswer t 0 (whole l) ≡ At (instantOf t Utc (whole l))
-  unfolding instantAnswer
-  has-instant = rw good (none-refused Refused (asked (offsetAt t) 60 (whole l)) (At (instantOf t Utc (whole l))) there)
+  pub has-instant : instantOf t 0 (whole l) ≡ At (instantFor t Utc (whole l))
+  unfolding instantOf
+  has-instant = rw good (none-refused Refused (labelTests (offsetAt t) 60 (whole l)) (At (instantFor t Utc (whole l))) there)
 
-  pub not-refused : {why : Refusal} → instantAnswer t 0 (whole l) ≡ Refused why → ⊥
+  pub not-refused : {why : Refusal} → instantOf t 0 (whole l) ≡ Refused why → ⊥
   not-refused {why} e =
-      let q : At (instantOf t Utc (whole l)) ≡ Refused why = sym has-instant ∙ e in
+      let q : At (instantFor t Utc (whole l)) ≡ Refused why = sym has-instant ∙ e in
       let z : _≡_ {A = ℕ} 0 1 = cc q in omega arith
 
-  module _ {x : ℤ} (e : instantAnswer t 0 (whole l) ≡ At x) where
+  module _ {x : ℤ} (e : instantOf t 0 (whole l) ≡ At x) where
     pub tai-is : quotZ x (pos 1000000) ≡ taiSecond t l
     unfolding instantAt taiSecond
     tai-is =
-        let q : x ≡ instantOf t Utc (whole l) = cc has-instant in
+        let q : x ≡ instantFor t Utc (whole l) = cc has-instant in
         let z = (pos (secondOf l) +ℤ offsetAt t (monthOf l)) -ℤ pos 63113947200 in
-        let w : instantOf t Utc (whole l) ≡ pos 1000000 *ℤ z = +ℤ-idr (pos 1000000 *ℤ z +ℤ pos 0) ∙ +ℤ-idr (pos 1000000 *ℤ z) in
+        let w : instantFor t Utc (whole l) ≡ pos 1000000 *ℤ z = +ℤ-idr (pos 1000000 *ℤ z +ℤ pos 0) ∙ +ℤ-idr (pos 1000000 *ℤ z) in
         ap (λ y. quotZ y (pos 1000000)) (q ∙ w) ∙ millions z
 
     -- the picture written to a buffer of its size

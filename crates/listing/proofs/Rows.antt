@@ -11,9 +11,9 @@ use Rattle.laws.proofs.Placed.{place-none}
 use Rattle.answer.specs.declared.Refusal.{Refusal}
 use Rattle.leap.specs.declared.Table.{Table}
 use Rattle.leap.specs.Leap.{accepted}
-use Rattle.stamp.specs.declared.Label.{Label}
+use Rattle.labels.specs.declared.Label.{Label}
 use Rattle.clock.specs.declared.TickAnswer.the-variants.{Next, Refused as Ended}
-use Rattle.clock.specs.Clock.{tickAnswer}
+use Rattle.clock.specs.Clock.{tick}
 use Rattle.clock.specs.Promise.{admits, Ticks}
 use Rattle.clock.proofs.Run.{all-run}
 use Rattle.digits.specs.Bytes.{Placed}
@@ -21,7 +21,7 @@ use Rattle.digits.proofs.Bytes.{is-placed, then-placed}
 use Rattle.listing.specs.Listing.{rowText, onward, rows}
 
 -- what a tick of an admitted label gives is admitted
-stays : (t : Table) (l l′ : Label) → Ticks t l → tickAnswer t l ≡ Next l′ → admits t l′ ≡ true
+stays : (t : Table) (l l′ : Label) → Ticks t l → tick t l ≡ Next l′ → admits t l′ ≡ true
 stays t l l′ (inl w) e = let q : w .0 ≡ l′ = cc (w .1 .0) in subst (λ x. admits t x ≡ true) q (w .1 .1 .is-admitted)
 stays t l l′ (inr w) e = let z : _≡_ {A = ℕ} 0 1 = cc (w .1) in absurd (omega arith)
 
@@ -58,14 +58,14 @@ module _ (t : Table) (first : Label) (count from : ℕ) (start : List ℕ) where
       more : Placed start from (r .done ++ rowText t l) b o
       more = then-placed start from (r .done) (rowText t l) (r .stored) p
 
-      whole-is : (r .done ++ rowText t l) ++ onward (rows t (left - 1)) (tickAnswer t l) ≡ rows t count first
+      whole-is : (r .done ++ rowText t l) ++ onward (rows t (left - 1)) (tick t l) ≡ rows t count first
       unfolding rows
       whole-is =
           let n : left ≡ suc (left - 1) = omega arith in
           append-assoc (r .done) (rowText t l) _ ∙ subst (λ (k : ℕ). r .done ++ rows t k l ≡ rows t count first) n (r .whole)
 
       -- the clock goes on
-      pub rowed-more : {next : Label} → tickAnswer t l ≡ Next next → Rowed o next b (left - 1)
+      pub rowed-more : {next : Label} → tick t l ≡ Next next → Rowed o next b (left - 1)
       rowed-more {next} e =
           record {
             done = r .done ++ rowText t l;
@@ -77,6 +77,6 @@ module _ (t : Table) (first : Label) (count from : ℕ) (start : List ℕ) where
           }
 
       -- the clock ends
-      pub rowed-last : {why : Refusal} → tickAnswer t l ≡ Ended why → Whole b o
+      pub rowed-last : {why : Refusal} → tick t l ≡ Ended why → Whole b o
       rowed-last {why} e =
           let w : r .done ++ rowText t l ≡ rows t count first = sym (append-nil (r .done ++ rowText t l)) ∙ rw e at whole-is in rw w at more

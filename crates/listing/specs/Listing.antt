@@ -11,11 +11,12 @@ use Rattle.answer.specs.declared.Refusal.the-variants.{Shape as SHAPE, Ask as A
 use Rattle.answer.specs.Refusals.{number, refusing}
 use Rattle.leap.specs.declared.Table.{Table}
 use Rattle.leap.specs.Leap.{offsetAt}
-use Rattle.stamp.specs.declared.Label.{Label}
-use Rattle.stamp.specs.Labels.{monthOf, secondOf}
+use Rattle.labels.specs.declared.Label.{Label}
+use Rattle.labels.specs.Labels.{monthOf, whole}
+use Rattle.labels.specs.Seconds.{secondOf}
 use Rattle.clock.specs.declared.TickAnswer.{TickAnswer}
 use Rattle.clock.specs.declared.TickAnswer.the-variants.{Next, Refused as Ended}
-use Rattle.clock.specs.Clock.{whole, tickAnswer}
+use Rattle.clock.specs.Clock.{tick}
 use Rattle.leap.specs.declared.TableAnswer.{TableAnswer}
 use Rattle.leap.specs.declared.TableAnswer.the-variants.{Read as BlockGood, Refused as BlockBad}
 use Rattle.leap.specs.declared.TableRead.{TableRead}
@@ -94,7 +95,7 @@ onward more (Ended why) = []
 -- a line for each of n seconds from a label on
 unfoldable pub rows : Table → ℕ → Label → List ℕ
 rows t zero l = []
-rows t (suc n) l = rowText t l ++ onward (rows t n) (tickAnswer t l)
+rows t (suc n) l = rowText t l ++ onward (rows t n) (tick t l)
 
 -- ---- the first bad line decides
 

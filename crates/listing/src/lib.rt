@@ -23,8 +23,8 @@ use clock::TickAnswer;
 use digits::Number;
 use leap::Table;
 use stamp::InstantAnswer;
-use stamp::Label;
-use stamp::Reading;
+use labels::Label;
+use labels::Reading;
 use text::TextAnswer;
 
 // The header's 8 bytes and at most 42 for each of 3,600 lines.

@@ -7,8 +7,8 @@ use lib.IntN.{ℤ}
 use lib.Ieee.{Float}
 use Rattle.stamp.specs.declared.Stamp.{Stamp}
 use Rattle.stamp.specs.declared.StampAnswer.{StampAnswer}
-use Rattle.stamp.specs.Labels.{fields}
-use Rattle.stamp.specs.Instants.{scaleNumber}
+use Rattle.labels.specs.Labels.{fields}
+use Rattle.stamp.specs.Scales.{scaleNumber}
 use Rattle.stamp.specs.Stamps.{stampResults}
 use Rattle.clock.specs.declared.TickAnswer.{TickAnswer}
 use Rattle.clock.specs.Clock.{tickResults}

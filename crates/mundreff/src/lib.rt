@@ -6,10 +6,9 @@ ghost use lib.ListN.{length};
 ghost use Rattle.laws.specs.Placed.{place};
 ghost use Rattle.answer.specs.Buffers.{writtenResults};
 ghost use Rattle.leap.specs.Leap.{bulletinC};
-ghost use Rattle.stamp.specs.Labels.{fields};
-ghost use Rattle.stamp.specs.Instants.{instantAnswer, instantResults};
-ghost use Rattle.stamp.specs.Stamps.{stampAnswer};
-ghost use Rattle.clock.specs.Clock.{startAnswer, tickAnswer};
+ghost use Rattle.labels.specs.Labels.{fields};
+ghost use Rattle.stamp.specs.Stamps.{instantOf, instantResults, stampOf};
+ghost use Rattle.clock.specs.Clock.{start, tick};
 ghost use Rattle.block.specs.Reading.{readBlock};
 ghost use Rattle.text.specs.Text.{readText, writeText, writeTextAfter};
 ghost use Rattle.julian.specs.Dates.{julianAnswer, dateAnswer};
@@ -25,8 +24,8 @@ use julian::JulianAnswer;
 use julian::JulianDate;
 use leap::Table;
 use stamp::InstantAnswer;
-use stamp::Label;
-use stamp::Reading;
+use labels::Label;
+use labels::Reading;
 use stamp::Scale;
 use stamp::Stamp;
 use stamp::StampAnswer;
@@ -339,7 +338,7 @@ pub extern "C" fn mundreff_instant_of(
     stamp: &[u32; 8],
     instant: &mut i64,
 ) -> u32
-    ensures { λ r. ⌜ (r, now (instant .exit)) ≡ instantResults (instantAnswer (tableFrom (now (table .entry))) (scaleFrom (now (stamp .entry))) (readingFrom (now (stamp .entry)))) ⌝ }
+    ensures { λ r. ⌜ (r, now (instant .exit)) ≡ instantResults (instantOf (tableFrom (now (table .entry))) (scaleFrom (now (stamp .entry))) (readingFrom (now (stamp .entry)))) ⌝ }
 {
     let a = stamp::instant_of(table_of(table), stamp[0], reading_of(stamp));
     give_instant(a, instant)
@@ -352,7 +351,7 @@ pub extern "C" fn mundreff_stamp_of(
     scale: u32,
     stamp: &mut [u32; 8],
 ) -> u32
-    ensures { λ r. ⌜ (r, now (stamp .exit)) ≡ stampNumbers (stampAnswer (tableFrom (now (table .entry))) instant scale) ⌝ }
+    ensures { λ r. ⌜ (r, now (stamp .exit)) ≡ stampNumbers (stampOf (tableFrom (now (table .entry))) instant scale) ⌝ }
 {
     let a = stamp::stamp_of(table_of(table), instant, scale);
     give_stamp(a, stamp)
@@ -421,7 +420,7 @@ pub extern "C" fn mundreff_read_julian(
 
 #[no_mangle]
 pub extern "C" fn mundreff_start(table: &[u32; 129], label: &mut [u32; 6]) -> u32
-    ensures { λ r. ⌜ (r, now (label .exit)) ≡ labelNumbers (startAnswer (tableFrom (now (table .entry)))) ⌝ }
+    ensures { λ r. ⌜ (r, now (label .exit)) ≡ labelNumbers (start (tableFrom (now (table .entry)))) ⌝ }
 {
     give_label(clock::start(table_of(table)), label)
 }
@@ -429,7 +428,7 @@ pub extern "C" fn mundreff_start(table: &[u32; 129], label: &mut [u32; 6]) -> u3
 // The label becomes the next one: with one place for both, a tick in place is what is proved, and no two labels can overlap.
 #[no_mangle]
 pub extern "C" fn mundreff_tick_in_place(table: &[u32; 129], label: &mut [u32; 6]) -> u32
-    ensures { λ r. ⌜ (r, now (label .exit)) ≡ labelNumbers (tickAnswer (tableFrom (now (table .entry))) (labelFrom 0 (now (label .entry)))) ⌝ }
+    ensures { λ r. ⌜ (r, now (label .exit)) ≡ labelNumbers (tick (tableFrom (now (table .entry))) (labelFrom 0 (now (label .entry)))) ⌝ }
 {
     give_label(clock::tick(table_of(table), label_of(label)), label)
 }

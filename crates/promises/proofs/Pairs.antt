@@ -4,7 +4,7 @@ use mathlib.Core.Path.{_≡_, ap}
 use lib.IntN.{ℤ}
 use Prim.Native.Nat.{ℕ}
 use Rattle.leap.specs.declared.Table.{Table}
-use Rattle.stamp.specs.Instants.{instantResults}
+use Rattle.stamp.specs.Stamps.{instantResults}
 use Rattle.julian.specs.declared.JulianDate.{JulianDate}
 use Rattle.julian.specs.declared.JulianAnswer.the-variants.{Dated}
 use Rattle.julian.specs.Dates.{julianAnswer, julianResults, dateAnswer}

@@ -13,14 +13,13 @@ use Rattle.answer.specs.declared.Written.the-variants.{Wrote, Refused as NotWri
 use Rattle.answer.specs.Refusals.{number}
 use Rattle.answer.specs.Buffers.{writtenResults}
 use Rattle.answer.proofs.Orders.{number-some}
-use Rattle.stamp.specs.declared.Label.{Label}
+use Rattle.labels.specs.declared.Label.{Label}
 use Rattle.stamp.specs.declared.Stamp.{Stamp}
 use Rattle.stamp.specs.declared.InstantAnswer.{InstantAnswer}
 use Rattle.stamp.specs.declared.InstantAnswer.the-variants.{At, Refused as NoInstant}
 use Rattle.stamp.specs.declared.StampAnswer.{StampAnswer}
 use Rattle.stamp.specs.declared.StampAnswer.the-variants.{Stamped, Refused as NoStamp}
-use Rattle.stamp.specs.Instants.{instantResults}
-use Rattle.stamp.specs.Stamps.{stampResults}
+use Rattle.stamp.specs.Stamps.{instantResults, stampResults}
 use Rattle.clock.specs.declared.TickAnswer.{TickAnswer}
 use Rattle.clock.specs.declared.TickAnswer.the-variants.{Next, Refused as NoTick}
 use Rattle.clock.specs.Clock.{tickResults}

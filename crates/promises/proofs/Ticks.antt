@@ -4,9 +4,8 @@ use mathlib.Core.Path.{_≡_, sym, ap, _∙_}
 use mathlib.Core.Logic.{inl, inr}
 use Prim.Native.Nat.{ℕ}
 use Rattle.leap.specs.declared.Table.{Table}
-use Rattle.stamp.specs.declared.Label.{Label}
-use Rattle.stamp.specs.Instants.{instantResults}
-use Rattle.stamp.specs.Stamps.{stampResults}
+use Rattle.labels.specs.declared.Label.{Label}
+use Rattle.stamp.specs.Stamps.{instantResults, stampResults}
 use Rattle.clock.specs.declared.TickAnswer.the-variants.{Next}
 use Rattle.clock.specs.Clock.{after, tickResults}
 use Rattle.clock.specs.Promise.{Shown}

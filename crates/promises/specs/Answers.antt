@@ -15,7 +15,7 @@ use Rattle.answer.specs.Refusals.{number}
 use Rattle.answer.specs.Buffers.{writtenResults}
 use Rattle.stamp.specs.declared.InstantAnswer.the-variants.{Refused as NoInstant}
 use Rattle.stamp.specs.declared.StampAnswer.the-variants.{Refused as NoStamp}
-use Rattle.stamp.specs.Instants.{instantResults}
+use Rattle.stamp.specs.Stamps.{instantResults}
 use Rattle.clock.specs.declared.TickAnswer.the-variants.{Refused as NoTick}
 use Rattle.text.specs.declared.TextAnswer.the-variants.{Refused as NoText}
 use Rattle.julian.specs.declared.JulianAnswer.the-variants.{Refused as NoDate}

@@ -10,10 +10,10 @@ use Prim.Native.Nat.{ℕ, _≤_, _<_}
 use Rattle.leap.specs.declared.Table.{Table}
 use Rattle.leap.specs.Leap.{accepted}
 use Rattle.stamp.specs.declared.Scale.the-variants.{Utc}
-use Rattle.stamp.specs.declared.Label.{Label}
-use Rattle.stamp.specs.Labels.{Before, noLabel}
+use Rattle.labels.specs.declared.Label.{Label}
+use Rattle.labels.specs.Labels.{Before, noLabel, whole}
 use Rattle.stamp.specs.Promise.{stamp}
-use Rattle.clock.specs.Clock.{whole, after, tickAnswer, tickResults}
+use Rattle.clock.specs.Clock.{after, tick, tickResults}
 use Rattle.clock.specs.Promise.{first, last, admits, Follows, secondsOn}
 use Rattle.promises.specs.Stamps.{GivesInstant, GivesStamp}
 
@@ -29,7 +29,7 @@ ended = (7, noLabel)
 pub record Ticking (t : Table) : Type 0 where
   pub starts-in-1972 : Shows t 0 first
   -- a tick of an admitted label gives the next admitted one, and RANGE after the last second of 9999
-  pub ticks-to-the-next : (l : Label) → admits t l ≡ true → ((l′ : Label) × ((tickResults (tickAnswer t l) ≡ (0, l′)) × Follows t l l′)) ⊎ ((l ≡ last) × (tickResults (tickAnswer t l) ≡ ended))
+  pub ticks-to-the-next : (l : Label) → admits t l ≡ true → ((l′ : Label) × ((tickResults (tick t l) ≡ (0, l′)) × Follows t l l′)) ⊎ ((l ≡ last) × (tickResults (tick t l) ≡ ended))
   -- every admitted second once
   pub shows-every-second : (l : Label) → admits t l ≡ true → (n : ℕ) × Shows t n l
   pub shows-it-once : (j k : ℕ) (l : Label) → Shows t j l → Shows t k l → j ≡ k

@@ -7,7 +7,7 @@ use Prim.Native.Nat.{ℕ, _+_, _*_, _/_, _%_, _≤_}
 use lib.IntN.{ℤ, pos, _+ℤ_}
 use lib.Ieee.Exact.{HasValue}
 use Rattle.leap.specs.declared.Table.{Table}
-use Rattle.stamp.specs.Instants.{instantResults}
+use Rattle.stamp.specs.Stamps.{instantResults}
 use Rattle.julian.specs.declared.JulianDate.{JulianDate}
 use Rattle.julian.specs.Fraction.{day, Close}
 use Rattle.julian.specs.Dates.{dateOf, julianAnswer, julianResults, microRead, dateAnswer}

@@ -10,14 +10,13 @@ use Rattle.answer.specs.declared.Written.{Written}
 use Rattle.answer.specs.Buffers.{written, bufferAfter, writtenResults}
 use Rattle.leap.specs.declared.Table.{Table}
 use Rattle.leap.specs.Leap.{bulletinC}
-use Rattle.stamp.specs.declared.Label.{Label}
-use Rattle.stamp.specs.declared.Reading.{Reading}
+use Rattle.labels.specs.declared.Label.{Label}
+use Rattle.labels.specs.declared.Reading.{Reading}
 use Rattle.stamp.specs.declared.InstantAnswer.{InstantAnswer}
 use Rattle.stamp.specs.declared.StampAnswer.{StampAnswer}
-use Rattle.stamp.specs.Instants.{instantAnswer, instantResults}
-use Rattle.stamp.specs.Stamps.{stampAnswer}
+use Rattle.stamp.specs.Stamps.{instantOf, instantResults, stampOf}
 use Rattle.clock.specs.declared.TickAnswer.{TickAnswer}
-use Rattle.clock.specs.Clock.{startAnswer, tickAnswer}
+use Rattle.clock.specs.Clock.{start, tick}
 use Rattle.leap.specs.declared.TableRead.{TableRead}
 use Rattle.block.specs.Blocks.{blockOf}
 use Rattle.block.specs.Reading.{readBlock}
@@ -47,14 +46,14 @@ WroteInC = (ℕ × ℕ) × List ℕ
 pub record Settled : Type 0 where
   pub read-block : (block : List ℕ) → AtMostOne (λ (r : TableRead). r ≡ readBlock block)
   pub write-block : (t : Table) (buffer : List ℕ) → AtMostOne (λ (r : Wrote). (r .0 ≡ written (tests t) (blockOf t) buffer) × (r .1 ≡ bufferAfter (tests t) (blockOf t) buffer))
-  pub instant-of : (t : Table) (scale : ℕ) (r : Reading) → AtMostOne (λ (a : InstantAnswer). a ≡ instantAnswer t scale r)
-  pub stamp-of : (t : Table) (instant : ℤ) (scale : ℕ) → AtMostOne (λ (a : StampAnswer). a ≡ stampAnswer t instant scale)
+  pub instant-of : (t : Table) (scale : ℕ) (r : Reading) → AtMostOne (λ (a : InstantAnswer). a ≡ instantOf t scale r)
+  pub stamp-of : (t : Table) (instant : ℤ) (scale : ℕ) → AtMostOne (λ (a : StampAnswer). a ≡ stampOf t instant scale)
   pub read-text : (t : Table) (scale : ℕ) (text : List ℕ) → AtMostOne (λ (a : TextAnswer). a ≡ readText t scale text)
   pub write-text : (t : Table) (instant : ℤ) (picture scale digits : ℕ) (buffer : List ℕ) → AtMostOne (λ (r : Wrote). (r .0 ≡ writeText t instant picture scale digits buffer) × (r .1 ≡ writeTextAfter t instant picture scale digits buffer))
   pub write-julian : (t : Table) (instant : ℤ) (scale : ℕ) → AtMostOne (λ (a : JulianAnswer). a ≡ julianAnswer t instant scale)
   pub read-julian : (t : Table) (scale : ℕ) (date : JulianDate) → AtMostOne (λ (a : InstantAnswer). a ≡ dateAnswer t scale date)
-  pub start : (t : Table) → AtMostOne (λ (a : TickAnswer). a ≡ startAnswer t)
-  pub tick : (t : Table) (l : Label) → AtMostOne (λ (a : TickAnswer). a ≡ tickAnswer t l)
+  pub start : (t : Table) → AtMostOne (λ (a : TickAnswer). a ≡ start t)
+  pub tick : (t : Table) (l : Label) → AtMostOne (λ (a : TickAnswer). a ≡ tick t l)
   pub bulletin-c : AtMostOne (λ (t : Table). t ≡ bulletinC)
 
 -- the calls of the C interface, over what is handed over as words: the number that each returns, and everything that it writes
@@ -62,11 +61,11 @@ pub record SettledInC : Type 0 where
   pub bulletin-c : AtMostOne (λ (r : ℕ × List ℕ). (r .0 ≡ 0) × (r .1 ≡ tableWords bulletinC))
   pub read-block : (block : List ℕ) → AtMostOne (λ (r : ℕ × ℕ × List ℕ). r ≡ tableNumbers (readBlock block))
   pub write-block : (table buffer : List ℕ) → AtMostOne (λ (r : WroteInC). (r .0 ≡ writtenResults (writeBlock (tableFrom table) buffer)) × (r .1 ≡ writeBlockAfter (tableFrom table) buffer))
-  pub instant-of : (table stamp : List ℕ) → AtMostOne (λ (r : ℕ × ℤ). r ≡ instantResults (instantAnswer (tableFrom table) (scaleFrom stamp) (readingFrom stamp)))
-  pub stamp-of : (table : List ℕ) (instant : ℤ) (scale : ℕ) → AtMostOne (λ (r : ℕ × List ℕ). r ≡ stampNumbers (stampAnswer (tableFrom table) instant scale))
+  pub instant-of : (table stamp : List ℕ) → AtMostOne (λ (r : ℕ × ℤ). r ≡ instantResults (instantOf (tableFrom table) (scaleFrom stamp) (readingFrom stamp)))
+  pub stamp-of : (table : List ℕ) (instant : ℤ) (scale : ℕ) → AtMostOne (λ (r : ℕ × List ℕ). r ≡ stampNumbers (stampOf (tableFrom table) instant scale))
   pub read-text : (table : List ℕ) (scale : ℕ) (text : List ℕ) → AtMostOne (λ (r : ℕ × ℤ × List ℕ). r ≡ textNumbers (readText (tableFrom table) scale text))
   pub write-text : (table : List ℕ) (instant : ℤ) (picture scale digits : ℕ) (buffer : List ℕ) → AtMostOne (λ (r : WroteInC). (r .0 ≡ writtenResults (writeText (tableFrom table) instant picture scale digits buffer)) × (r .1 ≡ writeTextAfter (tableFrom table) instant picture scale digits buffer))
   pub write-julian : (table : List ℕ) (instant : ℤ) (scale : ℕ) → AtMostOne (λ (r : ℕ × Float × Float). r ≡ pairNumbers (julianAnswer (tableFrom table) instant scale))
   pub read-julian : (table : List ℕ) (scale : ℕ) (midnight fraction : Float) → AtMostOne (λ (r : ℕ × ℤ). r ≡ instantResults (dateAnswer (tableFrom table) scale (pair midnight fraction)))
-  pub start : (table : List ℕ) → AtMostOne (λ (r : ℕ × List ℕ). r ≡ labelNumbers (startAnswer (tableFrom table)))
-  pub tick-in-place : (table label : List ℕ) → AtMostOne (λ (r : ℕ × List ℕ). r ≡ labelNumbers (tickAnswer (tableFrom table) (labelFrom 0 label)))
+  pub start : (table : List ℕ) → AtMostOne (λ (r : ℕ × List ℕ). r ≡ labelNumbers (start (tableFrom table)))
+  pub tick-in-place : (table label : List ℕ) → AtMostOne (λ (r : ℕ × List ℕ). r ≡ labelNumbers (tick (tableFrom table) (labelFrom 0 label)))

@@ -15,17 +15,17 @@ use Rattle.months.proofs.Laws.{length-most}
 use Rattle.leap.specs.declared.Table.{Table}
 use Rattle.leap.specs.Leap.{accepted}
 use Rattle.stamp.specs.declared.Scale.{Scale}
-use Rattle.stamp.specs.declared.Reading.{Reading}
+use Rattle.labels.specs.declared.Reading.{Reading}
 use Rattle.stamp.specs.declared.Stamp.{Stamp}
 use Rattle.stamp.specs.declared.InstantAnswer.{InstantAnswer}
 use Rattle.stamp.specs.declared.InstantAnswer.the-variants.{At, Refused as InstantRefused}
 use Rattle.stamp.specs.declared.StampAnswer.{StampAnswer}
 use Rattle.stamp.specs.declared.StampAnswer.the-variants.{Stamped, Refused as StampRefused}
-use Rattle.stamp.specs.Labels.{monthOf, asked}
-use Rattle.stamp.specs.Instants.{scaleOf, offsetsOf, mostSecond, instantOf, fieldsAnswer}
-use Rattle.stamp.specs.Stamps.{inRange, stampAt, stampAnswer}
+use Rattle.labels.specs.Labels.{monthOf, labelTests}
+use Rattle.stamp.specs.Scales.{scaleOf, offsetsOf, mostSecond}
+use Rattle.stamp.specs.Stamps.{instantFor, instantIn, inRange, stampAt, stampOf}
 use Rattle.stamp.specs.Promise.{Reads, stamp}
-use Rattle.stamp.proofs.Admitted.{admitted-to}
+use Rattle.labels.proofs.Admitted.{admitted-to}
 use Rattle.stamp.proofs.Undone.{undo}
 use Rattle.text.specs.declared.TextAnswer.{TextAnswer}
 use Rattle.text.specs.declared.TextAnswer.the-variants.{Read, Refused}
@@ -39,8 +39,8 @@ abbrev pub asText : Stamp → InstantAnswer → TextAnswer
 asText z (At x) = Read x z
 asText z (InstantRefused why) = Refused why
 
-pub read-as : (t : Table) (s : Scale) (r : Reading) {a : InstantAnswer} → a ≡ fieldsAnswer t s r → asText (stamp s r) a ≡ readAnswer t s r
-read-as t s r e = ap (asText (stamp s r)) e ∙ refusing-map (asText (stamp s r)) InstantRefused (asked (offsetsOf t s) (mostSecond s) r) (At (instantOf t s r))
+pub read-as : (t : Table) (s : Scale) (r : Reading) {a : InstantAnswer} → a ≡ instantIn t s r → asText (stamp s r) a ≡ readAnswer t s r
+read-as t s r e = ap (asText (stamp s r)) e ∙ refusing-map (asText (stamp s r)) InstantRefused (labelTests (offsetsOf t s) (mostSecond s) r) (At (instantFor t s r))
 
 -- ---- writing
 
@@ -50,8 +50,8 @@ module _ {A : Type 0} (refuse : Refusal → A) (a : A) where
   asWritten (Stamped z) = a
   asWritten (StampRefused why) = refuse why
 
-  pub write-as : (t : Table) (x : ℤ) (p k d : ℕ) → leb p 2 ≡ true → leb d 6 ≡ true → {v : StampAnswer} → v ≡ stampAnswer t x k → asWritten v ≡ refusing refuse (writeTests t x p k d) a
-  unfolding stampAnswer
+  pub write-as : (t : Table) (x : ℤ) (p k d : ℕ) → leb p 2 ≡ true → leb d 6 ≡ true → {v : StampAnswer} → v ≡ stampOf t x k → asWritten v ≡ refusing refuse (writeTests t x p k d) a
+  unfolding stampOf
   write-as t x p k d ep ed e =
       rw (ep, ed)
       (ap asWritten e ∙ refusing-map asWritten StampRefused ((leb k 3, ASK) ∷ (accepted t, TABLE) ∷ (inRange t (scaleOf k) x, RANGE) ∷ []) (Stamped (stampAt t (scaleOf k) x)))
@@ -59,10 +59,10 @@ module _ {A : Type 0} (refuse : Refusal → A) (a : A) where
 -- ---- the reading of a stamp
 
 -- the reading of an instant's stamp is admitted and stands for the instant
-pub stamp-reads : (t : Table) (k : ℕ) (x : ℤ) {z : Stamp} → stampAnswer t x k ≡ Stamped z → Reads t (scaleOf k) (z .reading) x
+pub stamp-reads : (t : Table) (k : ℕ) (x : ℤ) {z : Stamp} → stampOf t x k ≡ Stamped z → Reads t (scaleOf k) (z .reading) x
 stamp-reads t k x {z} e = undo t k .reads (z .reading) x (undo t k .instant-back z x e .1)
 
-pub stamp-plain : (t : Table) (k : ℕ) (x : ℤ) {z : Stamp} → stampAnswer t x k ≡ Stamped z → Plain (z .reading .label)
+pub stamp-plain : (t : Table) (k : ℕ) (x : ℤ) {z : Stamp} → stampOf t x k ≡ Stamped z → Plain (z .reading .label)
 stamp-plain t k x {z} e =
     let a = admitted-to (offsetsOf t (scaleOf k)) (mostSecond (scaleOf k)) (z .reading) (stamp-reads t k x e .is-admitted) in
     let r = a .exists in

@@ -26,16 +26,18 @@ use Rattle.leap.specs.declared.Table.{Table}
 use Rattle.leap.specs.Leap.{accepted}
 use Rattle.leap.proofs.Facts.{accepted-to}
 use Rattle.stamp.specs.declared.Scale.{Scale}
-use Rattle.stamp.specs.declared.Reading.{Reading}
+use Rattle.labels.specs.declared.Reading.{Reading}
 use Rattle.stamp.specs.declared.Stamp.{Stamp}
 use Rattle.stamp.specs.declared.InstantAnswer.the-variants.{At, Refused as InstantRefused}
 use Rattle.stamp.specs.declared.StampAnswer.the-variants.{Stamped, Refused as StampRefused}
-use Rattle.stamp.specs.Labels.{Offsets, monthOf, secondOf, realYear, realMonth, realDay, realClock, hasSecond, asked, admitted}
-use Rattle.stamp.specs.Instants.{scaleOf, fixed, offsetsOf, mostSecond, instantOf, countOf, instantAnswer}
-use Rattle.stamp.specs.Stamps.{inRange, stampAt, stampAnswer, stampResults}
+use Rattle.labels.specs.Labels.{Offsets, monthOf, realYear, realMonth, realDay, realClock, hasSecond, labelTests, admitted}
+use Rattle.labels.specs.Seconds.{secondOf}
+use Rattle.stamp.specs.Scales.{scaleOf, fixed, offsetsOf, mostSecond}
+use Rattle.stamp.specs.Stamps.{instantFor, instantOf, inRange, stampAt, stampOf, stampResults}
+use Rattle.stamp.specs.Instants.{countOf}
 use Rattle.stamp.specs.Promise.{Reads, stamp}
-use Rattle.stamp.proofs.Facts.{clock-to}
-use Rattle.stamp.proofs.Ends.{instant-is, range-count}
+use Rattle.labels.proofs.Facts.{clock-to}
+use Rattle.labels.proofs.Years.{instant-is, range-count}
 use Rattle.stamp.proofs.Undone.{stamp-given, undo}
 use Rattle.pictures.specs.Pictures.{dateText, clockText, pictureText}
 use Rattle.text.specs.Text.{dateAs, textOf, readText, textResults, writeTests, textAt, writeText, writeTextAfter}
@@ -88,11 +90,11 @@ mod-le u q = omega (arith, div-add-mod' u q)
 
 -- the stamp of an instant that a reading stands for is that reading
 pub stamp-of-reading : (t : Table) → accepted t ≡ true → (k : ℕ) → leb k 3 ≡ true → (r : Reading) (x : ℤ) → Reads t (scaleOf k) r x → (inRange t (scaleOf k) x ≡ true) × (stampAt t (scaleOf k) x ≡ stamp (scaleOf k) r)
-unfolding instantAnswer
+unfolding instantOf
 stamp-of-reading t good k known r x q =
-    let e : instantAnswer t k r ≡ At x =
+    let e : instantOf t k r ≡ At x =
     none-refused InstantRefused ((leb k 3, ASK) ∷ (accepted t, TABLE) ∷ []) _ (join known (join good refl))
-    ∙ none-refused InstantRefused (asked (offsetsOf t (scaleOf k)) (mostSecond (scaleOf k)) r) _ (q .is-admitted) ∙ ap At (q .instant-is) in
+    ∙ none-refused InstantRefused (labelTests (offsetsOf t (scaleOf k)) (mostSecond (scaleOf k)) r) _ (q .is-admitted) ∙ ap At (q .instant-is) in
     stamp-given t k x (stamp (scaleOf k) r) (undo t k .stamp-back r x e) .1 .1
 
 -- ---- an instant that is written
@@ -134,8 +136,8 @@ module _ (t : Table) (k : ℕ) (x : ℤ) (p d : ℕ) (buffer : List ℕ) (n : �
   sc : Scale
   sc = scaleOf k
 
-  pub stamped : stampAnswer t x k ≡ Stamped (stampAt t (scaleOf k) x)
-  unfolding stampAnswer
+  pub stamped : stampOf t x k ≡ Stamped (stampAt t (scaleOf k) x)
+  unfolding stampOf
   stamped = none-refused StampRefused ((leb k 3, ASK) ∷ (accepted t, TABLE) ∷ (inRange t (scaleOf k) x, RANGE) ∷ []) _ (join known (join good (join between refl)))
 
   r : Reading
@@ -149,7 +151,7 @@ module _ (t : Table) (k : ℕ) (x : ℤ) (p d : ℕ) (buffer : List ℕ) (n : �
   r′ = cutTo d r
 
   y : ℤ
-  y = instantOf t sc r′
+  y = instantFor t sc r′
 
   cut-reads : Reads t sc r′ y
   unfolding y r′
@@ -211,6 +213,6 @@ back t k =
           let e = wrote (writeText t x p k 6 buffer) n q in
           let z = stampAt t (scaleOf k) x in
           let f = whole (z .reading) in
-          (z, ap stampResults (stamped t k x p 6 buffer n e), answer t k x p 6 buffer n e ∙ ap (λ (a : Reading). (0, instantOf t (scaleOf k) a, stamp (scaleOf k) a)) f ∙ ap (λ (i : ℤ). (0, i, z)) (reads t k x p 6 buffer n e .instant-is));
+          (z, ap stampResults (stamped t k x p 6 buffer n e), answer t k x p 6 buffer n e ∙ ap (λ (a : Reading). (0, instantFor t (scaleOf k) a, stamp (scaleOf k) a)) f ∙ ap (λ (i : ℤ). (0, i, z)) (reads t k x p 6 buffer n e .instant-is));
       cut = λ x p d buffer n q. let e = wrote (writeText t x p k d buffer) n q in (y t k x p d buffer n e, stamp (scaleOf k) (r′ t k x p d buffer n e), answer t k x p d buffer n e, latest t k x p d buffer n e);
     }

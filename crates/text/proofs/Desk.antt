@@ -21,9 +21,11 @@ use Rattle.pictures.specs.declared.FieldsAnswer.the-variants.{Shows, NoPicture}
 use Rattle.pictures.specs.Pictures.{pictureText}
 use Rattle.pictures.specs.Reading.{like, readNumbered, readOfYear, readNamed, readFields}
 use Rattle.stamp.specs.declared.Stamp.{Stamp}
-use Rattle.stamp.specs.Labels.{at, asked, lastMinute, minuteIn, realYear, realMonth, realDay, realClock, hasSecond}
-use Rattle.stamp.specs.Instants.{scaleOf, called, offsetsOf, mostSecond, instantAt}
-use Rattle.stamp.specs.Stamps.{first, inRange, stampAt}
+use Rattle.labels.specs.Labels.{at, labelTests, lastMinute, minuteIn, realYear, realMonth, realDay, realClock, hasSecond}
+use Rattle.stamp.specs.Scales.{scaleOf, scaleTests, offsetsOf, mostSecond}
+use Rattle.stamp.specs.Instants.{instantAt}
+use Rattle.labels.specs.Seconds.{first}
+use Rattle.stamp.specs.Stamps.{inRange, stampAt}
 use Rattle.stamp.specs.Promise.{stamp}
 use Rattle.stamp.proofs.Cycles.{quickInstant, quick-instant}
 use Rattle.text.specs.declared.TextAnswer.{TextAnswer}
@@ -67,16 +69,16 @@ end-of-2016 =
 
 -- with the short way to an instant
 abbrev quickly : Table → ℕ → FieldsAnswer → TextAnswer
-quickly t k (Shows f) = let s = scaleOf k in let r = readingOf f in refusing Refused (asked (offsetsOf t s) (mostSecond s) r) (Read (quickInstant t s r) (stamp s r))
+quickly t k (Shows f) = let s = scaleOf k in let r = readingOf f in refusing Refused (labelTests (offsetsOf t s) (mostSecond s) r) (Read (quickInstant t s r) (stamp s r))
 quickly t k NoPicture = Refused SHAPE
 
 quick-fields : (t : Table) (k : ℕ) (a : FieldsAnswer) → fieldsRead t k a ≡ quickly t k a
 quick-fields t k (Shows f) = rw (quick-instant t (scaleOf k) (readingOf f)) refl
 quick-fields t k NoPicture = refl
 
-quick : (t : Table) (k : ℕ) (text : List ℕ) → textResults (readText t k text) ≡ textResults (refusing Refused (called t k) (quickly t k (readFields text)))
+quick : (t : Table) (k : ℕ) (text : List ℕ) → textResults (readText t k text) ≡ textResults (refusing Refused (scaleTests t k) (quickly t k (readFields text)))
 unfolding readText
-quick t k text = ap (λ (a : TextAnswer). textResults (refusing Refused (called t k) a)) (quick-fields t k (readFields text))
+quick t k text = ap (λ (a : TextAnswer). textResults (refusing Refused (scaleTests t k) a)) (quick-fields t k (readFields text))
 
 pub worked : AllRight rows
 unfolding eqZ allBelow leapYear monthLength daysBefore oneApart placeRight accepted lastBegun offsetAt lastMinute minuteIn realYear realMonth realDay realClock hasSecond instantAt like readNumbered readOfYear readNamed digitValue spelled monthNamed amongMonths

@@ -30,17 +30,18 @@ use Rattle.pictures.specs.declared.FieldsAnswer.the-variants.{Shows, NoPicture}
 use Rattle.pictures.specs.Pictures.{fractionText, pictureText, DateFits, WellFormed}
 use Rattle.pictures.specs.Reading.{readFields}
 use Rattle.pictures.proofs.Promise.{shown, back}
-use Rattle.stamp.specs.declared.Reading.{Reading}
+use Rattle.labels.specs.declared.Reading.{Reading}
 use Rattle.stamp.specs.declared.Stamp.{Stamp}
-use Rattle.stamp.specs.Labels.{Offsets, monthOf, asked}
-use Rattle.stamp.specs.Instants.{scaleOf, called, offsetsOf, mostSecond, instantOf}
+use Rattle.labels.specs.Labels.{Offsets, monthOf, labelTests}
+use Rattle.stamp.specs.Scales.{scaleOf, scaleTests, offsetsOf, mostSecond}
+use Rattle.stamp.specs.Stamps.{instantFor}
 use Rattle.stamp.specs.Promise.{stamp}
-use Rattle.stamp.proofs.Facts.{most-sixty}
+use Rattle.stamp.proofs.Scales.{most-sixty}
 use Rattle.text.specs.declared.TextAnswer.{TextAnswer}
 use Rattle.text.specs.declared.TextAnswer.the-variants.{Read, Refused}
 use Rattle.text.specs.Text.{on, dateOr, monthDayOf, readingOf, readAnswer, fieldsRead, readText, textResults, dateAs, fieldsOf}
 use Rattle.text.specs.Promise.{Sized, Names, Exactly}
-use Rattle.stamp.proofs.Admitted.{Admitted, admitted-to}
+use Rattle.labels.proofs.Admitted.{Admitted, admitted-to}
 
 -- ---- length
 
@@ -115,10 +116,10 @@ module _ (t : Table) (k : ℕ) (text : List ℕ) where
       let a = admitted-to o most r (n .reads .is-admitted) in
       let s = n .shows in
       let w = well-formed o most r a (most-sixty (scaleOf k)) (s .picture) (s .digits) (s .a-picture) (s .a-number) (s .enough) in
-      none-refused Refused (called t k) _ (join (le-leb k 3 (n .known)) (join (n .good) refl))
+      none-refused Refused (scaleTests t k) _ (join (le-leb k 3 (n .known)) (join (n .good) refl))
       ∙ ap (fieldsRead t k) (ap readFields (s .text-is) ∙ back (fieldsOf (s .picture) (s .digits) r) w)
       ∙ ap (readAnswer t (scaleOf k)) (reading-back o most r a (most-sixty (scaleOf k)) (s .picture) (s .digits) (s .a-picture))
-      ∙ none-refused Refused (asked o most r) _ (n .reads .is-admitted)
+      ∙ none-refused Refused (labelTests o most r) _ (n .reads .is-admitted)
       ∙ ap (λ (y : ℤ). Read y (stamp (scaleOf k) r)) (n .reads .instant-is)
 
   no-read : (x : ℤ) (z : Stamp) (why : Refusal) → Refused why ≡ Read x z → ⊥
@@ -136,7 +137,7 @@ module _ (t : Table) (k : ℕ) (text : List ℕ) where
       let r = readingOf f in
       let o = offsetsOf t (scaleOf k) in
       let most = mostSecond (scaleOf k) in
-      let q = was-passed Refused (asked o most r) (Read (instantOf t (scaleOf k) r) (stamp (scaleOf k) r)) (Read x z) (no-read x z) e in
+      let q = was-passed Refused (labelTests o most r) (Read (instantFor t (scaleOf k) r) (stamp (scaleOf k) r)) (Read x z) (no-read x z) e in
       let same : stamp (scaleOf k) r ≡ z = is-stamp (q .1) in
       let a = admitted-to o most r (q .0) in
       let names : Names t k text x r =
@@ -157,7 +158,7 @@ module _ (t : Table) (k : ℕ) (text : List ℕ) where
   only : (x : ℤ) (z : Stamp) → readText t k text ≡ Read x z → (z .scale ≡ scaleOf k) × Names t k text x (z .reading)
   unfolding readText
   only x z e =
-      let p = was-passed Refused (called t k) (fieldsRead t k (readFields text)) (Read x z) (no-read x z) e in
+      let p = was-passed Refused (scaleTests t k) (fieldsRead t k (readFields text)) (Read x z) (no-read x z) e in
       go (leb-true k 3 (and-l (leb k 3) _ (p .0))) (search (and-l, and-r)) (readFields text) refl (p .1)
     where
       go : k ≤ 3 → accepted t ≡ true → (a : FieldsAnswer) → readFields text ≡ a → fieldsRead t k a ≡ Read x z → (z .scale ≡ scaleOf k) × Names t k text x (z .reading)

@@ -10,11 +10,11 @@ use Rattle.digits.specs.Bytes.{ascii}
 use Rattle.leap.specs.declared.Table.{Table}
 use Rattle.leap.specs.Leap.{bulletinC}
 use Rattle.leap.specs.Desk.{T, N}
-use Rattle.stamp.specs.declared.Reading.{Reading}
-use Rattle.stamp.specs.Instants.{scaleOf}
+use Rattle.labels.specs.declared.Reading.{Reading}
+use Rattle.stamp.specs.Scales.{scaleOf}
 use Rattle.stamp.specs.Stamps.{noStamp}
 use Rattle.stamp.specs.Promise.{stamp}
-use Rattle.stamp.specs.Labels.{at}
+use Rattle.labels.specs.Labels.{at}
 use Rattle.text.specs.Text.{readText, textResults, writeText, writeTextAfter}
 
 pub data Row : Type 0 where

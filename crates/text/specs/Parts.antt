@@ -1,7 +1,7 @@
 -- Facts that the contracts of private functions cite.
 -- Assumes nothing.
 use Prim.Native.Nat.{ℕ, _≤_}
-use Rattle.stamp.specs.declared.Label.{Label}
+use Rattle.labels.specs.declared.Label.{Label}
 
 -- a label whose date is in the calendar's reach
 pub record Plain (l : Label) : Type 0 where

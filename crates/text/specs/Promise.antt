@@ -13,10 +13,10 @@ use Rattle.answer.specs.Buffers.{writtenResults}
 use Rattle.leap.specs.declared.Table.{Table}
 use Rattle.leap.specs.Leap.{accepted}
 use Rattle.stamp.specs.declared.Scale.{Scale}
-use Rattle.stamp.specs.declared.Reading.{Reading}
+use Rattle.labels.specs.declared.Reading.{Reading}
 use Rattle.stamp.specs.declared.Stamp.{Stamp}
-use Rattle.stamp.specs.Instants.{scaleOf}
-use Rattle.stamp.specs.Stamps.{stampAnswer, stampResults}
+use Rattle.stamp.specs.Scales.{scaleOf}
+use Rattle.stamp.specs.Stamps.{stampOf, stampResults}
 use Rattle.stamp.specs.Promise.{Reads, stamp}
 use Rattle.text.specs.Text.{textOf, readText, textResults, writeText, writeTextAfter}
 
@@ -71,7 +71,7 @@ pub record Latest (t : Table) (s : Scale) (digits : ℕ) (x y : ℤ) : Type 0 wh
 pub record Back (t : Table) (k : ℕ) : Type 0 where
   -- with six digits the text reads back as the instant, with its stamp
   pub six : (x : ℤ) (p : ℕ) (buffer : List ℕ) (n : ℕ) → writtenResults (writeText t x p k 6 buffer) ≡ (0, n)
-      → (z : Stamp) × (stampResults (stampAnswer t x k) ≡ (0, z)) × Gives t k (take n (writeTextAfter t x p k 6 buffer)) x z
+      → (z : Stamp) × (stampResults (stampOf t x k) ≡ (0, z)) × Gives t k (take n (writeTextAfter t x p k 6 buffer)) x z
   -- with any number of digits as the last instant not after it that they can show
   pub cut : (x : ℤ) (p digits : ℕ) (buffer : List ℕ) (n : ℕ) → writtenResults (writeText t x p k digits buffer) ≡ (0, n)
       → (y : ℤ) × (z : Stamp) × Gives t k (take n (writeTextAfter t x p k digits buffer)) y z × Latest t (scaleOf k) digits x y

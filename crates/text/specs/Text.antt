@@ -25,12 +25,12 @@ use Rattle.pictures.specs.declared.FieldsAnswer.the-variants.{Shows, NoPicture}
 use Rattle.pictures.specs.Pictures.{pictureText}
 use Rattle.pictures.specs.Reading.{readFields}
 use Rattle.stamp.specs.declared.Scale.{Scale}
-use Rattle.stamp.specs.declared.Label.{Label}
-use Rattle.stamp.specs.declared.Reading.{Reading}
+use Rattle.labels.specs.declared.Label.{Label}
+use Rattle.labels.specs.declared.Reading.{Reading}
 use Rattle.stamp.specs.declared.Stamp.{Stamp}
-use Rattle.stamp.specs.Labels.{label, monthOf, asked}
-use Rattle.stamp.specs.Instants.{scaleOf, knownScale, called, offsetsOf, mostSecond, instantOf}
-use Rattle.stamp.specs.Stamps.{inRange, stampAt, noStamp}
+use Rattle.labels.specs.Labels.{label, monthOf, labelTests}
+use Rattle.stamp.specs.Scales.{scaleOf, knownScale, scaleTests, offsetsOf, mostSecond}
+use Rattle.stamp.specs.Stamps.{instantFor, inRange, stampAt, noStamp}
 use Rattle.stamp.specs.Promise.{stamp}
 use Rattle.text.specs.declared.TextAnswer.{TextAnswer}
 use Rattle.text.specs.declared.TextAnswer.the-variants.{Read, Refused}
@@ -60,7 +60,7 @@ readingOf f =
 
 -- a reading is judged as a stamp's fields are
 abbrev pub readAnswer : Table → Scale → Reading → TextAnswer
-readAnswer t s r = refusing Refused (asked (offsetsOf t s) (mostSecond s) r) (Read (instantOf t s r) (stamp s r))
+readAnswer t s r = refusing Refused (labelTests (offsetsOf t s) (mostSecond s) r) (Read (instantFor t s r) (stamp s r))
 
 -- the fields of a text are judged; a text that has no picture is SHAPE
 abbrev pub fieldsRead : Table → ℕ → FieldsAnswer → TextAnswer
@@ -69,7 +69,7 @@ fieldsRead t k NoPicture = Refused SHAPE
 
 -- `read_text`: what every call asks first, and then the text
 unfoldable pub readText : Table → ℕ → List ℕ → TextAnswer
-readText t k text = refusing Refused (called t k) (fieldsRead t k (readFields text))
+readText t k text = refusing Refused (scaleTests t k) (fieldsRead t k (readFields text))
 
 -- an answer in the scope's numbers: that of the refusal, 0 on success, the instant and the stamp, all zero on a refusal
 abbrev pub textResults : TextAnswer → ℕ × ℤ × Stamp
@@ -92,7 +92,7 @@ fieldsOf p digits r =
 abbrev pub textOf : ℕ → ℕ → Reading → List ℕ
 textOf p digits r = pictureText (fieldsOf p digits r)
 
--- `write_text`: what is asked, in this order, and the text
+-- `write_text`: what is labelTests, in this order, and the text
 abbrev pub writeTests : Table → ℤ → ℕ → ℕ → ℕ → List (Bool × Refusal)
 writeTests t x p k digits = (leb p 2 && (leb digits 6 && knownScale k), ASK) ∷ (accepted t, TABLE) ∷ (inRange t (scaleOf k) x, RANGE) ∷ []
 

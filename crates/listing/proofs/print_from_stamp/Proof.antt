@@ -2,7 +2,7 @@
 -- Assumes nothing.
 use mathlib.Core.Path.{sym, ap, _∙_}
 use borrow.Author.Needs.{needs}
-use Rattle.stamp.specs.declared.Label.{Label}
+use Rattle.labels.specs.declared.Label.{Label}
 use Rattle.digits.proofs.Bytes.{placed-as}
 use Rattle.listing.specs.Listing.{afterStamp, fromCount, fromStamp}
 use Rattle.listing.proofs.Judged.{stamp-good}

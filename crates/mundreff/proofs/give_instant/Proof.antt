@@ -6,7 +6,7 @@ use Prim.Native.Nat.{ℕ}
 use mir.Syntax.{w64}
 use mir.Facts.{toZ-ofZ}
 use borrow.Author.Needs.{needs}
-use Rattle.stamp.specs.Instants.{instantResults}
+use Rattle.stamp.specs.Stamps.{instantResults}
 use Rattle.mundreff.proofs.Results.{refused}
 use Rattle.mundreff.proofs.give_instant.Statement.{statement}
 use Rattle.mundreff.proofs.give_instant.Tie as tie

@@ -2,10 +2,9 @@
 -- Assumes nothing.
 use mathlib.Core.Path.{ap₂, _∙_}
 use Rattle.leap.specs.declared.Table.{Table}
-use Rattle.stamp.specs.declared.Reading.{Reading}
+use Rattle.labels.specs.declared.Reading.{Reading}
 use borrow.Author.Needs.{needs}
-use Rattle.stamp.specs.Instants.{instantAnswer}
-use Rattle.stamp.specs.Instants.{instantResults}
+use Rattle.stamp.specs.Stamps.{instantOf, instantResults}
 use Rattle.mundreff.specs.Calls.{scaleFrom}
 use Rattle.mundreff.proofs.Results.{said}
 use Rattle.mundreff.proofs.mundreff_instant_of.Statement.{statement}
@@ -25,4 +24,4 @@ mundreff-instant-of-spec =
     let t = r .before .before in
     said instantResults (c .give-instant .ensures)
     (c .before .before .instant-of .ensures
-    ∙ ap₂ (λ (u : Table) (x : Reading). instantAnswer u (scaleFrom (t .before .args .stamp .now)) x) (t .table-of .ensures) (r .reading-of .ensures))))
+    ∙ ap₂ (λ (u : Table) (x : Reading). instantOf u (scaleFrom (t .before .args .stamp .now)) x) (t .table-of .ensures) (r .reading-of .ensures))))

@@ -4,7 +4,7 @@ use mathlib.Core.Path.{ap, _∙_}
 use Rattle.leap.specs.declared.Table.{Table}
 use borrow.Author.Needs.{needs}
 use Rattle.julian.specs.Dates.{dateAnswer}
-use Rattle.stamp.specs.Instants.{instantResults}
+use Rattle.stamp.specs.Stamps.{instantResults}
 use Rattle.mundreff.specs.Calls.{pair}
 use Rattle.mundreff.proofs.Results.{said}
 use Rattle.mundreff.proofs.mundreff_read_julian.Statement.{statement}

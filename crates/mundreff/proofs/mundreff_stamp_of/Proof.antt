@@ -5,7 +5,7 @@ use lib.IntN.{ℤ}
 use mir.Facts.{toZ-ofZ}
 use Rattle.leap.specs.declared.Table.{Table}
 use borrow.Author.Needs.{needs}
-use Rattle.stamp.specs.Stamps.{stampAnswer}
+use Rattle.stamp.specs.Stamps.{stampOf}
 use Rattle.mundreff.specs.Answers.{stampNumbers}
 use Rattle.mundreff.proofs.Results.{said}
 use Rattle.mundreff.proofs.mundreff_stamp_of.Statement.{statement}
@@ -23,4 +23,4 @@ mundreff-stamp-of-spec =
     let a = t .before .args in
     said stampNumbers (c .give-stamp .ensures)
     (c .before .before .stamp-of .ensures
-    ∙ ap₂ (λ (u : Table) (x : ℤ). stampAnswer u x (a .scale)) (t .table-of .ensures) (toZ-ofZ (t .before .fits .instant)))))
+    ∙ ap₂ (λ (u : Table) (x : ℤ). stampOf u x (a .scale)) (t .table-of .ensures) (toZ-ofZ (t .before .fits .instant)))))

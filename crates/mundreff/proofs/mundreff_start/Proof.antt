@@ -2,7 +2,7 @@
 -- Assumes nothing.
 use mathlib.Core.Path.{ap, _∙_}
 use borrow.Author.Needs.{needs}
-use Rattle.clock.specs.Clock.{startAnswer}
+use Rattle.clock.specs.Clock.{start}
 use Rattle.mundreff.specs.Answers.{labelNumbers}
 use Rattle.mundreff.proofs.Results.{said}
 use Rattle.mundreff.proofs.mundreff_start.Statement.{statement}
@@ -15,4 +15,4 @@ mundreff-start-spec =
     (λ c κs. search needs)
     (λ c κs. search needs)
     (λ c κs. search needs)
-    (λ c. said labelNumbers (c .give-label .ensures) (c .before .before .start .ensures ∙ ap startAnswer (c .before .before .before .table-of .ensures))))
+    (λ c. said labelNumbers (c .give-label .ensures) (c .before .before .start .ensures ∙ ap start (c .before .before .before .table-of .ensures))))

@@ -2,7 +2,7 @@
 -- Assumes nothing.
 use mathlib.Core.Path.{ap₂, _∙_}
 use borrow.Author.Needs.{needs}
-use Rattle.clock.specs.Clock.{tickAnswer}
+use Rattle.clock.specs.Clock.{tick}
 use Rattle.mundreff.specs.Answers.{labelNumbers}
 use Rattle.mundreff.proofs.Results.{said}
 use Rattle.mundreff.proofs.mundreff_tick_in_place.Statement.{statement}
@@ -19,4 +19,4 @@ mundreff-tick-in-place-spec =
     (λ c.
     let t = c .before .before in
     let l = t .before in
-    said labelNumbers (c .give-label .ensures) (t .tick .ensures ∙ ap₂ tickAnswer (l .before .before .table-of .ensures) (l .label-of .ensures))))
+    said labelNumbers (c .give-label .ensures) (t .tick .ensures ∙ ap₂ tick (l .before .before .table-of .ensures) (l .label-of .ensures))))

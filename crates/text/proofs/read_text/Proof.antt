@@ -12,7 +12,7 @@ use Rattle.answer.proofs.Orders.{refused, passed}
 use Rattle.leap.specs.Leap.{accepted}
 use Rattle.leap.specs.declared.Table.{Table}
 use Rattle.stamp.specs.declared.Scale.{Scale}
-use Rattle.stamp.specs.declared.Reading.{Reading}
+use Rattle.labels.specs.declared.Reading.{Reading}
 use Rattle.stamp.specs.Promise.{stamp}
 use Rattle.text.specs.declared.TextAnswer.{TextAnswer}
 use Rattle.text.specs.declared.TextAnswer.the-variants.{Read}

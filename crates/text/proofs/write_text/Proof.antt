@@ -10,7 +10,7 @@ use Rattle.answer.specs.declared.Written.the-variants.{Refused}
 use Rattle.answer.specs.Refusals.{refusing}
 use Rattle.stamp.specs.declared.Stamp.{Stamp}
 use Rattle.stamp.specs.declared.StampAnswer.{StampAnswer}
-use Rattle.stamp.specs.Stamps.{stampAnswer}
+use Rattle.stamp.specs.Stamps.{stampOf}
 use Rattle.stamp.proofs.Undone.{stamp-given}
 use Rattle.pictures.specs.Pictures.{pictureText}
 use Rattle.text.specs.Text.{textOf, writeTests, textAt}
@@ -27,8 +27,8 @@ digits-known c = le-leb _ _ (c .if2 .left)
 abbrev start : tie.After-stamp-of-in → tie.Start
 start c = c .before .before .before .before .before .before .before
 
-stamped : (c : tie.After-stamp-of-in) → let a = start c .args in c .stamp-of-in .result ≡ stampAnswer (a .t1) (a .instant) (a .scale)
-stamped c = let s = start c in read1 (λ (x : ℤ). stampAnswer (s .args .t1) x (s .args .scale)) (s .fits .instant) (c .stamp-of-in .ensures)
+stamped : (c : tie.After-stamp-of-in) → let a = start c .args in c .stamp-of-in .result ≡ stampOf (a .t1) (a .instant) (a .scale)
+stamped c = let s = start c in read1 (λ (x : ℤ). stampOf (s .args .t1) x (s .args .scale)) (s .fits .instant) (c .stamp-of-in .ensures)
 
 returns : tie.Need-returns
 returns c = let e = lt-leb _ _ (c .if1 .taken) in (rw e, rw e)
