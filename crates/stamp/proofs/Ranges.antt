@@ -1,6 +1,6 @@
 -- An instant in range: its place on the axis, which is not negative, and what lies too far from 2000.
 -- Assumes nothing.
-use mathlib.Core.Path.{_≡_, sym, subst}
+use mathlib.Core.Path.{_≡_, ap, subst}
 use mathlib.Core.Bool.{Bool, true, false}
 use Prim.Native.Nat.{ℕ, _+_, _≤_, _<_}
 use native.Mathlib.Omega.{arith}
@@ -50,6 +50,11 @@ module _ (t : Table) (acc : Accepted t) (sc : Scale) (x : ℤ) where
 
     pub range-high : x ≤ℤ pos 300000000000000000
     range-high = le-from x (pos 300000000000000000) (omega (arith, bounds e))
+
+    pub range-count : axisCount sc x + (down x + down (fixed sc)) ≡ up x + up (fixed sc) + 63113947200000000
+    range-count =
+        let a = near-axis sc x range-low range-high in
+        omega (arith, to-axis-is sc x, ap up a, ap down a)
 
     pub count-in-years : inYears (offsetsOf t sc) (pos (axisCount sc x)) ≡ true
     count-in-years = subst (λ (a : ℤ). inYears (offsetsOf t sc) a ≡ true) (near-axis sc x range-low range-high) e

@@ -1,7 +1,7 @@
 -- A scale's two sides: offsets that move by at most one, and a map that each way undoes.
 -- Assumes nothing.
 use mathlib.Core.Path.{_≡_, refl, sym, _∙_}
-use Prim.Native.Nat.{ℕ, _+_, _≤_}
+use Prim.Native.Nat.{ℕ, _+_, _*_, _≤_}
 use native.Mathlib.Omega.{arith}
 use lib.IntN.{ℤ, pos, _+ℤ_, _-ℤ_}
 use Rattle.laws.proofs.Difference.{up, down, sum-is, diff-is, eq-from}
@@ -11,6 +11,8 @@ use Rattle.leap.specs.declared.Table.{Table}
 use Rattle.leap.proofs.Facts.{Accepted}
 use Rattle.leap.proofs.Moves.{at-first, steps-by-months}
 use Rattle.labels.specs.declared.Label.{Label}
+use Rattle.labels.specs.Seconds.{axisAt}
+use Rattle.labels.proofs.Years.{axis-is}
 use Rattle.labels.proofs.Exists.{Exists, second-few, second-uniform}
 use Rattle.stamp.specs.declared.Scale.{Scale}
 use Rattle.stamp.specs.declared.Scale.the-variants.{Utc, Tai, Tdt, Gps}
@@ -63,6 +65,10 @@ unfolding toAxis
 to-axis-is s x =
     let b : ℤ = x +ℤ fixed s in
     omega (arith, sum-is x (fixed s), sum-is b (pos 63113947200000000))
+
+-- the instant at which the scale shows a microsecond where its offset is o
+pub instant-is : (s : Scale) (u : ℕ) (o : ℤ) → up (toInstant s (axisAt u o)) + (1000000 * down o + up (fixed s) + 63113947200000000) ≡ u + 1000000 * up o + down (fixed s) + down (toInstant s (axisAt u o))
+instant-is s u o = omega (arith, to-instant-is s (axisAt u o), axis-is u o)
 
 pub axis-back : (s : Scale) (a : ℤ) → toAxis s (toInstant s a) ≡ a
 axis-back s a = eq-from (toAxis s (toInstant s a)) a (omega (arith, to-axis-is s (toInstant s a), to-instant-is s a))

@@ -26,7 +26,7 @@ use Rattle.stamp.specs.Scales.{scaleOf, offsetsOf, mostSecond}
 use Rattle.stamp.specs.Stamps.{instantFor, instantIn, inRange, stampAt, stampOf}
 use Rattle.stamp.specs.Promise.{Reads, stamp}
 use Rattle.labels.proofs.Admitted.{admitted-to}
-use Rattle.stamp.proofs.Undone.{undo}
+use Rattle.stamp.proofs.Undone.{instant-given, instant-back}
 use Rattle.text.specs.declared.TextAnswer.{TextAnswer}
 use Rattle.text.specs.declared.TextAnswer.the-variants.{Read, Refused}
 use Rattle.text.specs.Parts.{Plain}
@@ -60,7 +60,7 @@ module _ {A : Type 0} (refuse : Refusal → A) (a : A) where
 
 -- the reading of an instant's stamp is admitted and stands for the instant
 pub stamp-reads : (t : Table) (k : ℕ) (x : ℤ) {z : Stamp} → stampOf t x k ≡ Stamped z → Reads t (scaleOf k) (z .reading) x
-stamp-reads t k x {z} e = undo t k .reads (z .reading) x (undo t k .instant-back z x e .1)
+stamp-reads t k x {z} e = instant-given t k (z .reading) x (instant-back t k z x e .1) .1 .1
 
 pub stamp-plain : (t : Table) (k : ℕ) (x : ℤ) {z : Stamp} → stampOf t x k ≡ Stamped z → Plain (z .reading .label)
 stamp-plain t k x {z} e =

@@ -31,14 +31,14 @@ use Rattle.stamp.specs.declared.Stamp.{Stamp}
 use Rattle.stamp.specs.declared.InstantAnswer.the-variants.{At, Refused as InstantRefused}
 use Rattle.stamp.specs.declared.StampAnswer.the-variants.{Stamped, Refused as StampRefused}
 use Rattle.labels.specs.Labels.{Offsets, monthOf, realYear, realMonth, realDay, realClock, hasSecond, labelTests, admitted}
-use Rattle.labels.specs.Seconds.{secondOf}
+use Rattle.labels.specs.Seconds.{microOf, secondOf}
 use Rattle.stamp.specs.Scales.{scaleOf, fixed, offsetsOf, mostSecond}
-use Rattle.stamp.specs.Stamps.{instantFor, instantOf, inRange, stampAt, stampOf, stampResults}
-use Rattle.stamp.specs.Instants.{countOf}
+use Rattle.stamp.specs.Stamps.{instantFor, instantOf, inRange, axisCount, stampAt, stampOf, stampResults}
 use Rattle.stamp.specs.Promise.{Reads, stamp}
 use Rattle.labels.proofs.Facts.{clock-to}
-use Rattle.labels.proofs.Years.{instant-is, range-count}
-use Rattle.stamp.proofs.Undone.{stamp-given, undo}
+use Rattle.stamp.proofs.Scales.{instant-is}
+use Rattle.stamp.proofs.Ranges.{range-count}
+use Rattle.stamp.proofs.Undone.{stamp-given, stamp-back}
 use Rattle.pictures.specs.Pictures.{dateText, clockText, pictureText}
 use Rattle.text.specs.Text.{dateAs, textOf, readText, textResults, writeTests, textAt, writeText, writeTextAfter}
 use Rattle.text.specs.Promise.{Gives, Names, Showable, Latest, Back}
@@ -95,7 +95,7 @@ stamp-of-reading t good k known r x q =
     let e : instantOf t k r ≡ At x =
     none-refused InstantRefused ((leb k 3, ASK) ∷ (accepted t, TABLE) ∷ []) _ (join known (join good refl))
     ∙ none-refused InstantRefused (labelTests (offsetsOf t (scaleOf k)) (mostSecond (scaleOf k)) r) _ (q .is-admitted) ∙ ap At (q .instant-is) in
-    stamp-given t k x (stamp (scaleOf k) r) (undo t k .stamp-back r x e) .1 .1
+    stamp-given t k x (stamp (scaleOf k) r) (stamp-back t k r x e) .1 .1
 
 -- ---- an instant that is written
 
@@ -177,17 +177,17 @@ module _ (t : Table) (k : ℕ) (x : ℤ) (p d : ℕ) (buffer : List ℕ) (n : �
   apart =
       let o = offsetsOf t sc (monthOf (r .label)) in
       let i = reads .instant-is in
-      omega (arith, ap up i, ap down i, instant-is (secondOf (r .label)) (r .micro) o (fixed sc), instant-is (secondOf (r .label)) (r′ .micro) o (fixed sc), mod-le (r .micro) (10 ^ (6 - d)))
+      omega (arith, ap up i, ap down i, instant-is sc (microOf r) o, instant-is sc (microOf r′) o, mod-le (r .micro) (10 ^ (6 - d)))
 
   last : (w : ℤ) → Showable t sc d w → w ≤ℤ x → w ≤ℤ y
   unfolding r sc
   last w s h =
       let acc = accepted-to t good in
       let b = stamp-of-reading t good k known (s .reading) w (s .reads) in
-      let m : countOf w (fixed sc) % 1000000 ≡ s .reading .micro = ap (λ (z : Stamp). z .reading .micro) (b .1) in
+      let m : axisCount sc w % 1000000 ≡ s .reading .micro = ap (λ (z : Stamp). z .reading .micro) (b .1) in
       let a = range-count t acc sc w (b .0) in
       let c = range-count t acc sc x between in
-      let l = last-count d (countOf w (fixed sc)) (countOf x (fixed sc)) few (rw m (s .enough)) (omega (arith, integers)) in
+      let l = last-count d (axisCount sc w) (axisCount sc x) few (rw m (s .enough)) (omega (arith, integers)) in
       le-from w y (omega (arith, apart))
 
   latest : Latest t sc d x y

@@ -22,9 +22,9 @@ use Rattle.pictures.specs.Pictures.{pictureText}
 use Rattle.pictures.specs.Reading.{like, readNumbered, readOfYear, readNamed, readFields}
 use Rattle.stamp.specs.declared.Stamp.{Stamp}
 use Rattle.labels.specs.Labels.{at, labelTests, lastMinute, minuteIn, realYear, realMonth, realDay, realClock, hasSecond}
-use Rattle.stamp.specs.Scales.{scaleOf, scaleTests, offsetsOf, mostSecond}
-use Rattle.stamp.specs.Instants.{instantAt}
-use Rattle.labels.specs.Seconds.{first}
+use Rattle.stamp.specs.Scales.{scaleOf, scaleTests, offsetsOf, mostSecond, toInstant, toAxis}
+use Rattle.labels.specs.Seconds.{axisAt, inYears}
+use Rattle.labels.proofs.Uniform.{first-micro}
 use Rattle.stamp.specs.Stamps.{inRange, stampAt}
 use Rattle.stamp.specs.Promise.{stamp}
 use Rattle.stamp.proofs.Cycles.{quickInstant, quick-instant}
@@ -37,7 +37,7 @@ use Rattle.text.proofs.Back.{stamp-of-reading}
 
 -- the last microsecond before 2000-01-01 12:00:00 is in range, and has this stamp
 noon : (inRange bulletinC (scaleOf 1) (negℤ (pos 1)) ≡ true) × (stampAt bulletinC (scaleOf 1) (negℤ (pos 1)) ≡ stamp (scaleOf 1) (at 2000 1 1 11 59 59 999999))
-unfolding leapYear monthLength daysBefore lastMinute minuteIn realYear realMonth realDay realClock hasSecond instantAt
+unfolding leapYear monthLength daysBefore lastMinute minuteIn realYear realMonth realDay realClock hasSecond toInstant axisAt
 noon = stamp-of-reading bulletinC bulletin-accepted 1 refl (at 2000 1 1 11 59 59 999999) (negℤ (pos 1)) (record { is-admitted = refl; instant-is = quick-instant bulletinC (scaleOf 1) (at 2000 1 1 11 59 59 999999) })
 
 text-before-noon : textAt bulletinC (negℤ (pos 1)) 0 1 0 ≡ ascii "2000-01-01T11:59:59"
@@ -49,15 +49,15 @@ written-noon buffer = rw (bulletin-accepted, noon .0, text-before-noon) (refl, r
 
 -- no label on TAI is as early as the first on TDT
 too-early : inRange bulletinC (scaleOf 1) (negℤ (pos 883656032184000)) ≡ false
-unfolding leapYear monthLength daysBefore instantAt inRange
-too-early = rw (quick-instant bulletinC (scaleOf 1) first) refl
+unfolding inYears toAxis axisAt
+too-early = rw first-micro refl
 
 refused-early : Right (unwritten bulletinC 1 (negℤ (pos 883656032184000)) 0 0 7)
 refused-early buffer = rw (bulletin-accepted, too-early) (refl, refl)
 
 -- the last second of 2016, by its day of the year
 end-of-2016 : Right (gives bulletinC 0 "2016-366T23:59:60" (pos 536500836000000) (at 2016 12 31 23 59 60 0))
-unfolding leapYear monthLength daysBefore lastBegun offsetAt lastMinute minuteIn realYear realMonth realDay realClock hasSecond instantAt pictureText
+unfolding leapYear monthLength daysBefore lastBegun offsetAt lastMinute minuteIn realYear realMonth realDay realClock hasSecond toInstant axisAt pictureText
 end-of-2016 =
     ap textResults (reads-as bulletinC 0 (ascii "2016-366T23:59:60") (pos 536500836000000) (at 2016 12 31 23 59 60 0)
     (record {
@@ -81,11 +81,11 @@ unfolding readText
 quick t k text = ap (λ (a : TextAnswer). textResults (refusing Refused (scaleTests t k) a)) (quick-fields t k (readFields text))
 
 pub worked : AllRight rows
-unfolding eqZ allBelow leapYear monthLength daysBefore oneApart placeRight accepted lastBegun offsetAt lastMinute minuteIn realYear realMonth realDay realClock hasSecond instantAt like readNumbered readOfYear readNamed digitValue spelled monthNamed amongMonths
+unfolding eqZ allBelow leapYear monthLength daysBefore oneApart placeRight accepted lastBegun offsetAt lastMinute minuteIn realYear realMonth realDay realClock hasSecond toInstant axisAt like readNumbered readOfYear readNamed digitValue spelled monthNamed amongMonths
 worked = (quick _ _ _, (quick _ _ _, (quick _ _ _, (quick _ _ _, (quick _ _ _, (quick _ _ _, (end-of-2016, (quick _ _ _, (quick _ _ _, (quick _ _ _, tt))))))))))
 
 pub further-worked : AllRight furtherRows
-unfolding eqZ allBelow leapYear monthLength daysBefore oneApart placeRight accepted lastBegun offsetAt lastMinute minuteIn realYear realMonth realDay realClock hasSecond instantAt like readNumbered readOfYear readNamed digitValue spelled
+unfolding eqZ allBelow leapYear monthLength daysBefore oneApart placeRight accepted lastBegun offsetAt lastMinute minuteIn realYear realMonth realDay realClock hasSecond toInstant axisAt like readNumbered readOfYear readNamed digitValue spelled
 further-worked = (quick _ _ _, (written-noon, (refused-early, tt)))
 
 pub without-shape : AllShapeless shapeless

@@ -115,10 +115,10 @@ module _ (t : Table) (k : ℕ) (text : List ℕ) where
       let most = mostSecond (scaleOf k) in
       let a = admitted-to o most r (n .reads .is-admitted) in
       let s = n .shows in
-      let w = well-formed o most r a (most-sixty (scaleOf k)) (s .picture) (s .digits) (s .a-picture) (s .a-number) (s .enough) in
+      let w = well-formed o most r a (most-sixty (scaleOf k) .1) (s .picture) (s .digits) (s .a-picture) (s .a-number) (s .enough) in
       none-refused Refused (scaleTests t k) _ (join (le-leb k 3 (n .known)) (join (n .good) refl))
       ∙ ap (fieldsRead t k) (ap readFields (s .text-is) ∙ back (fieldsOf (s .picture) (s .digits) r) w)
-      ∙ ap (readAnswer t (scaleOf k)) (reading-back o most r a (most-sixty (scaleOf k)) (s .picture) (s .digits) (s .a-picture))
+      ∙ ap (readAnswer t (scaleOf k)) (reading-back o most r a (most-sixty (scaleOf k) .1) (s .picture) (s .digits) (s .a-picture))
       ∙ none-refused Refused (labelTests o most r) _ (n .reads .is-admitted)
       ∙ ap (λ (y : ℤ). Read y (stamp (scaleOf k) r)) (n .reads .instant-is)
 
