@@ -69,30 +69,17 @@ fn nth_line(s: &[u8], k: usize) -> Line
     Line { from, end }
 }
 
-fn no_block() -> TableRead
-    ensures { λ r. ⌜ r ≡ refusedAt SHAPE 0 ⌝ }
-{
-    TableRead {
-        answer: TableAnswer::Refused(Refusal::Shape, 0),
-        table: Table {
-            count: 0,
-            months: [0; 64],
-            offsets: [0; 64],
-        },
-    }
-}
-
 // The first line: a block in hex.
 fn block_line(line: &[u8]) -> TableRead
     ensures { λ r. ⌜ r ≡ blockLine (now (line .entry)) ⌝ }
 {
     if 1024 < line.len() {
-        return no_block();
+        return leap::refused_at(Refusal::Shape, 0);
     }
     let mut bytes = [0u8; 512];
     let h = lines::hex(line, &mut bytes);
     let Number::Is(n) = h else {
-        return no_block();
+        return leap::refused_at(Refusal::Shape, 0);
     };
     let k = lines::front(&bytes, n as usize);
     block::read_block(&bytes[..k])

@@ -92,7 +92,7 @@ fieldsOf p digits r =
 abbrev pub textOf : ℕ → ℕ → Reading → List ℕ
 textOf p digits r = pictureText (fieldsOf p digits r)
 
--- `write_text`: what is labelTests, in this order, and the text
+-- `write_text`: what is asked, in this order, and the text
 abbrev pub writeTests : Table → ℤ → ℕ → ℕ → ℕ → List (Bool × Refusal)
 writeTests t x p k digits = (leb p 2 && (leb digits 6 && knownScale k), ASK) ∷ (accepted t, TABLE) ∷ (inRange t (scaleOf k) x, RANGE) ∷ []
 
