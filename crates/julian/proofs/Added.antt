@@ -11,7 +11,7 @@ use Rattle.laws.proofs.Offsets.{Steps, uniform-steps}
 use Rattle.months.specs.Months.{daysBefore, monthLength}
 use Rattle.months.proofs.Laws.{days-1972, days-next, days-mono, length-least}
 use Rattle.leap.specs.declared.Table.{Table}
-use Rattle.leap.specs.Leap.{offsetAt}
+use Rattle.leap.specs.Leap.{epoch, offsetAt}
 use Rattle.leap.proofs.Facts.{accepted-to}
 use Rattle.labels.specs.declared.Label.{Label}
 use Rattle.labels.specs.declared.Reading.{Reading}
@@ -19,7 +19,7 @@ use Rattle.labels.specs.Labels.{Offsets, uniform, lastMinute, inLastMinute, mon
 use Rattle.labels.specs.Seconds.{secondOf, microOf, axisOf, lastMonth, readingAt}
 use Rattle.labels.proofs.Facts.{second-yes}
 use Rattle.labels.proofs.Turn.{minute-range}
-use Rattle.labels.proofs.Falls.{In, month-at}
+use Rattle.labels.proofs.Falls.{month-at}
 use Rattle.labels.proofs.Exists.{second-uniform, at-end}
 use Rattle.labels.proofs.Admitted.{Admitted}
 use Rattle.labels.proofs.Years.{days-last, axis-is}
@@ -76,18 +76,18 @@ module _ (t : Table) (x : ℤ) (p : JulianDate) (g : Given t 0 x p) (h : InAdded
   step : up (o (m + 1)) + down (o m) ≡ up (o m) + down (o (m + 1)) + 1
   step = omega (arith, st .by-one m, in-its-month o st l (stood .0) (stood .1) .ends, stood .1 .stands, second-is)
 
-  month-range : (23664 ≤ m) × (m < 119999)
+  month-range : (epoch ≤ m) × (m < lastMonth)
   month-range = (
     omega (arith, ad .since-1972),
-    by-order m 119999 (λ q. q) (λ q.
-        let same : m ≡ 119999 = omega (arith, ad .until-9999, ad .exists .month-high) in
+    by-order m lastMonth (λ q. q) (λ q.
+        let same : m ≡ lastMonth = omega (arith, ad .until-9999, ad .exists .month-high) in
         let e : o (m + 1) ≡ o m = ap (λ (n : ℕ). o (n + 1)) same ∙ st .at-rest ∙ sym (ap o same) in
         absurd (omega (arith, step, ap up e, ap down e))),
   )
 
   in-years : InYears u
   in-years =
-      omega (arith, second-is, ad .on-clock .micro-high, days-1972, days-last, days-mono 23664 (m + 1) (omega (arith, month-range)), days-mono (m + 1) 119999 (omega (arith, month-range)))
+      omega (arith, second-is, ad .on-clock .micro-high, days-1972, days-last, days-mono epoch (m + 1) (omega (arith, month-range)), days-mono (m + 1) lastMonth (omega (arith, month-range)))
 
   -- ---- the reading of that microsecond
 

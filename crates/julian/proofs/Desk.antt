@@ -1,6 +1,6 @@
 -- The night desk's Julian row and its doubles are right.
 -- Assumes nothing.
-use mathlib.Core.Path.{_≡_, refl, ap, _∙_}
+use mathlib.Core.Path.{_≡_, refl, ap}
 use Prim.Native.Nat.{ℕ, _+_}
 use lib.IntN.{pos}
 use lib.Ieee.{ofBits, ofInt, div, add, lt, eq, le}

@@ -28,13 +28,16 @@ pub enum JulianAnswer {
 // The microseconds of a day.
 const DAY: u64 = 86400000000;
 
+// The whole part of the midnight of 1 January of year 0.
+const YEAR_0: u64 = 1721059;
+
 // ---- an instant to a pair
 
 // The fraction is one rounded division.
 fn pair_of(u: u64) -> JulianDate
     ensures { λ r. ⌜ r ≡ pairOf u ⌝ }
 {
-    let midnight = std::num::nearest_u64_to_f64(1721059 + u / DAY) + 0.5;
+    let midnight = std::num::nearest_u64_to_f64(YEAR_0 + u / DAY) + 0.5;
     let fraction = std::num::nearest_u64_to_f64(u % DAY) / 86400000000.0;
     JulianDate { midnight, fraction }
 }
@@ -105,12 +108,12 @@ fn in_years(x: f64) -> bool
     false
 }
 
-// Counted from 1 January of year 0.
+// Counted from 1 January of year 0; the last of 9999 is day 3,652,424.
 fn day_number(x: f64) -> u64
     requires { ⌜ T (inYears x) ⌝ }
     ensures { λ r. ⌜ (r ≡ dayNumber x) × (r ≤ 3652424) ⌝ }
 {
-    std::num::truncating_f64_to_u64(x) - 1721059
+    std::num::truncating_f64_to_u64(x) - YEAR_0
 }
 
 // The nearest microsecond of the double's exact value, a tie to the later.
