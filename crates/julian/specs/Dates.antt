@@ -1,22 +1,21 @@
--- The pair of doubles that is written for an instant, and the instant that a pair is read as. Between them stands a microsecond,
--- counted from year 0 on days of 86,400 seconds, on UTC too.
+-- The pair of doubles that is written for an instant, and the instant that a pair is read as. Between them stands the microsecond that the scale shows,
+-- counted from year 0 on days of 86,400 seconds, on UTC too: 23:59:60 shows the next day's first second.
 -- Assumes nothing.
 use mathlib.Core.Bool.{Bool, false}
 use mathlib.Core.List.{List, [], _∷_, _++_}
 use Prim.Native.Nat.{ℕ, _+_, _*_, _/_, _%_}
-use lib.Dec.{leb}
 use lib.IntN.{ℤ, pos}
 use lib.Ieee.{fin}
 use Rattle.answer.specs.declared.Refusal.{Refusal}
-use Rattle.answer.specs.declared.Refusal.the-variants.{Number as NUMBER, Range as RANGE, NoSecond as NOSECOND}
+use Rattle.answer.specs.declared.Refusal.the-variants.{Number as NUMBER, Range as RANGE}
 use Rattle.answer.specs.Refusals.{number, refusing}
 use Rattle.leap.specs.declared.Table.{Table}
-use Rattle.stamp.specs.declared.Reading.{Reading}
+use Rattle.labels.specs.Seconds.{microOf}
+use Rattle.stamp.specs.declared.Scale.{Scale}
 use Rattle.stamp.specs.declared.InstantAnswer.{InstantAnswer}
-use Rattle.stamp.specs.declared.InstantAnswer.the-variants.{At, Refused as NoInstant}
-use Rattle.stamp.specs.Labels.{uniform, secondOf, hasSecond}
-use Rattle.stamp.specs.Instants.{scaleOf, called, offsetsOf, instantOf}
-use Rattle.stamp.specs.Stamps.{readingAt, stampAt, last, inRange}
+use Rattle.stamp.specs.declared.InstantAnswer.the-variants.{Refused as NoInstant}
+use Rattle.stamp.specs.Scales.{scaleOf, scaleTests}
+use Rattle.stamp.specs.Stamps.{inRange, stampAt, instantShowing}
 use Rattle.julian.specs.declared.JulianDate.{JulianDate}
 use Rattle.julian.specs.declared.JulianAnswer.{JulianAnswer}
 use Rattle.julian.specs.declared.JulianAnswer.the-variants.{Dated, Refused}
@@ -25,19 +24,17 @@ use Rattle.julian.specs.Midnight.{midnightOf, isMidnight, inYears, dayNu
 
 -- ---- written
 
--- the microsecond of a reading; one of 23:59:60 is one of the next day's first second
-abbrev pub microOf : Reading → ℕ
-microOf r = 1000000 * secondOf (r .label) + r .micro
+-- the microsecond that scale k shows at an instant
+abbrev pub micros : Table → ℤ → ℕ → ℕ
+micros t x k = microOf (stampAt t (scaleOf k) x .reading)
 
-abbrev pub dateOf : ℕ → JulianDate
-dateOf u = record { midnight = midnightOf (u / day); fraction = fractionOf (u % day) }
+-- the pair of a microsecond
+abbrev pub pairOf : ℕ → JulianDate
+pairOf u = record { midnight = midnightOf (u / day); fraction = fractionOf (u % day) }
 
 -- `write_julian`
-unfoldable pub julianAnswer : Table → ℤ → ℕ → JulianAnswer
-julianAnswer t x k =
-    refusing Refused
-    (called t k ++ (inRange t (scaleOf k) x, RANGE) ∷ [])
-    (Dated (dateOf (microOf (stampAt t (scaleOf k) x .reading))))
+unfoldable pub writeJulian : Table → ℤ → ℕ → JulianAnswer
+writeJulian t x k = refusing Refused (scaleTests t k ++ (inRange t (scaleOf k) x, RANGE) ∷ []) (Dated (pairOf (micros t x k)))
 
 -- an answer in the scope's numbers: that of the refusal, 0 on success, and the pair, both zero on a refusal
 abbrev pub julianResults : JulianAnswer → ℕ × JulianDate
@@ -46,19 +43,18 @@ julianResults (Refused why) = (number why, record { midnight = fin false 0 (pos 
 
 -- ---- read
 
+-- what is asked of the pair itself, in this order
+abbrev pub pairTests : JulianDate → List (Bool × Refusal)
+pairTests p = (isMidnight (p .midnight), NUMBER) ∷ (isFraction (p .fraction), NUMBER) ∷ (inYears (p .midnight), RANGE) ∷ []
+
 -- the microsecond of a pair; a fraction that rounds to a whole day is the next midnight
 unfoldable pub microRead : JulianDate → ℕ
 microRead p = day * dayNumber (p .midnight) + microsOf (p .fraction)
 
--- the reading that each scale shows there
-abbrev pub readingOf : JulianDate → Reading
-readingOf p = readingAt uniform (microRead p)
-
--- what is asked of them, in this order: RANGE for the midnight alone, and again after rounding
-abbrev pub asked : Table → ℕ → JulianDate → List (Bool × Refusal)
-asked t k p =
-    called t k ++ (isMidnight (p .midnight), NUMBER) ∷ (isFraction (p .fraction), NUMBER) ∷ (inYears (p .midnight), RANGE) ∷ (leb (microRead p) (microOf last), RANGE) ∷ (hasSecond (offsetsOf t (scaleOf k)) (readingOf p .label), NOSECOND) ∷ []
+-- after rounding, RANGE again and NOSECOND: they are asked of what the scale is to show
+abbrev pub readIn : Table → Scale → JulianDate → InstantAnswer
+readIn t s p = refusing NoInstant (pairTests p) (instantShowing t s (microRead p))
 
 -- `read_julian`
-unfoldable pub dateAnswer : Table → ℕ → JulianDate → InstantAnswer
-dateAnswer t k p = refusing NoInstant (asked t k p) (At (instantOf t (scaleOf k) (readingOf p)))
+unfoldable pub readJulian : Table → ℕ → JulianDate → InstantAnswer
+readJulian t k p = refusing NoInstant (scaleTests t k) (readIn t (scaleOf k) p)

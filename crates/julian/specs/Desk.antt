@@ -5,21 +5,21 @@ use mathlib.Core.Bool.{true, false}
 use Prim.Native.Nat.{_+_}
 use lib.IntN.{pos, negsuc}
 use lib.Ieee.{fin, binary64, ofBits}
-use Rattle.leap.specs.Leap.{bulletinC}
 use Rattle.months.specs.Months.{daysBefore}
-use Rattle.julian.specs.declared.JulianAnswer.the-variants.{Dated}
+use Rattle.leap.specs.Leap.{epoch, bulletinC}
+use Rattle.labels.specs.Seconds.{lastMonth}
 use Rattle.julian.specs.Fraction.{fractionOf, isFraction, microsOf}
 use Rattle.julian.specs.Midnight.{midnightOf, isMidnight, firstMidnight, lastMidnight}
-use Rattle.julian.specs.Dates.{julianAnswer}
+use Rattle.julian.specs.Dates.{writeJulian, julianResults}
 
 pub record Desk : Type 0 where
   -- instant 0 on TAI: 2451544.5 and 0.5
-  pub julian-row : julianAnswer bulletinC (pos 0) 1 ≡ Dated (record { midnight = fin false 4903089 (negsuc 0); fraction = fin false 1 (negsuc 0) })
+  pub julian-row : julianResults (writeJulian bulletinC (pos 0) 1) ≡ (0, record { midnight = fin false 4903089 (negsuc 0); fraction = fin false 1 (negsuc 0) })
   -- the fraction of midnight is +0.0
   pub midnight-zero : fractionOf 0 ≡ fin false 0 (pos 0)
   -- 1972-01-01 and 9999-12-31
-  pub first-midnight : midnightOf (daysBefore 23664) ≡ firstMidnight
-  pub last-midnight : midnightOf (daysBefore 119999 + 30) ≡ lastMidnight
+  pub first-midnight : midnightOf (daysBefore epoch) ≡ firstMidnight
+  pub last-midnight : midnightOf (daysBefore lastMonth + 30) ≡ lastMidnight
   -- 1 / 16384 is 5,273,437.5 microseconds: the later
   pub tie : microsOf (fin false 1 (negsuc 13)) ≡ 5273438
   -- 0x1.b26c2e8aee24fp-3 is 18,327,202,812.49999.. microseconds; its product in doubles would round up

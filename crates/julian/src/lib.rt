@@ -1,20 +1,18 @@
 // Two-part Julian dates: the pair of doubles that is written for an instant, and the instant that a pair is read as.
-// Between a pair and a stamp stands a microsecond, counted from year 0 on days of 86,400 seconds.
+// Between a pair and an instant stands the microsecond that the scale shows, counted from year 0 on days of 86,400 seconds.
 ghost use mathlib.Core.Path.{_≡_};
 ghost use Prim.Native.Nat.{_+_, _/_, _%_, _^_, _≤_};
 ghost use lib.Dec.{T};
-ghost use Rattle.stamp.specs.Labels.{uniform};
-ghost use Rattle.stamp.specs.Stamps.{readingAt};
-ghost use Rattle.julian.specs.Fraction.{isFraction, microsOf};
+ghost use Rattle.leap.specs.Leap.{tabled};
+ghost use Rattle.julian.specs.Fraction.{day, isFraction, microsOf};
 ghost use Rattle.julian.specs.Midnight.{isMidnight, inYears, dayNumber};
-ghost use Rattle.julian.specs.Dates.{dateOf, microOf, julianAnswer, dateAnswer};
+ghost use Rattle.julian.specs.Dates.{pairOf, writeJulian, readIn, readJulian};
 use answer::Refusal;
 use leap::Table;
 use stamp::InstantAnswer;
-use labels::Label;
-use labels::Reading;
 use stamp::Scale;
-use stamp::StampAnswer;
+use stamp::ScaleAnswer;
+use stamp::ShownAnswer;
 
 // The midnight ends in .5, and the fraction is at least 0 and below 1.
 pub struct JulianDate {
@@ -27,37 +25,29 @@ pub enum JulianAnswer {
     Refused(Refusal),
 }
 
+// The microseconds of a day.
+const DAY: u64 = 86400000000;
+
+// The whole part of the midnight of 1 January of year 0.
+const YEAR_0: u64 = 1721059;
+
 // ---- an instant to a pair
 
-// The microsecond of a reading that a scale has.
-fn micro_of(r: Reading) -> u64
-    requires { ⌜ (r .label .year ≤ 9999) × ((1 ≤ r .label .month) × ((r .label .month ≤ 12) × ((1 ≤ r .label .day) × (r .label .day ≤ 31)))) ⌝ }
-    requires { ⌜ (r .label .hour ≤ 23) × ((r .label .minute ≤ 59) × ((r .label .second ≤ 60) × (r .micro ≤ 999999))) ⌝ }
-    ensures { λ u. ⌜ u ≡ microOf r ⌝ }
-{
-    let l = r.label;
-    let span = calendar::month(12 * l.year + (l.month - 1));
-    let day = span.start + (l.day - 1) as u64;
-    let time = 3600 * l.hour + (60 * l.minute + l.second);
-    1000000 * (86400 * day + time as u64) + r.micro as u64
-}
-
 // The fraction is one rounded division.
-fn date_of(u: u64) -> JulianDate
-    ensures { λ r. ⌜ r ≡ dateOf u ⌝ }
+fn pair_of(u: u64) -> JulianDate
+    ensures { λ r. ⌜ r ≡ pairOf u ⌝ }
 {
-    let midnight = std::num::nearest_u64_to_f64(1721059 + u / 86400000000) + 0.5;
-    let fraction = std::num::nearest_u64_to_f64(u % 86400000000) / 86400000000.0;
+    let midnight = std::num::nearest_u64_to_f64(YEAR_0 + u / DAY) + 0.5;
+    let fraction = std::num::nearest_u64_to_f64(u % DAY) / 86400000000.0;
     JulianDate { midnight, fraction }
 }
 
 pub fn write_julian(t: Table, instant: i64, scale: u32) -> JulianAnswer
-    ensures { λ a. ⌜ a ≡ julianAnswer t instant scale ⌝ }
+    ensures { λ a. ⌜ a ≡ writeJulian t instant scale ⌝ }
 {
-    let answer = stamp::stamp_of_in(t.count, &t.months, &t.offsets, instant, scale);
-    match answer {
-        StampAnswer::Stamped(z) => JulianAnswer::Dated(date_of(micro_of(z.reading))),
-        StampAnswer::Refused(why) => JulianAnswer::Refused(why),
+    match stamp::shown_of(t.count, &t.months, &t.offsets, instant, scale) {
+        ShownAnswer::Shows(u) => JulianAnswer::Dated(pair_of(u)),
+        ShownAnswer::Refused(why) => JulianAnswer::Refused(why),
     }
 }
 
@@ -118,18 +108,18 @@ fn in_years(x: f64) -> bool
     false
 }
 
-// Counted from 1 January of year 0.
+// Counted from 1 January of year 0; the last of 9999 is day 3,652,424.
 fn day_number(x: f64) -> u64
     requires { ⌜ T (inYears x) ⌝ }
-    ensures { λ r. ⌜ (r ≡ dayNumber x) × ((720258 ≤ r) × (r ≤ 3652424)) ⌝ }
+    ensures { λ r. ⌜ (r ≡ dayNumber x) × (r ≤ 3652424) ⌝ }
 {
-    std::num::truncating_f64_to_u64(x) - 1721059
+    std::num::truncating_f64_to_u64(x) - YEAR_0
 }
 
 // The nearest microsecond of the double's exact value, a tie to the later.
 fn micros_of(x: f64) -> u64
     requires { ⌜ T (isFraction x) ⌝ }
-    ensures { λ r. ⌜ (r ≡ microsOf x) × (r ≤ 86400000000) ⌝ }
+    ensures { λ r. ⌜ (r ≡ microsOf x) × (r ≤ day) ⌝ }
 {
     let bits = f64::to_bits(x);
     let field = field_of(bits);
@@ -146,39 +136,16 @@ fn micros_of(x: f64) -> u64
     (halves + 1) / 2
 }
 
-// The reading of a microsecond from 1972 to 9999.
-fn reading_at(u: u64) -> Reading
-    requires { ⌜ (62230291200000000 ≤ u) × (u ≤ 315569519999999999) ⌝ }
-    ensures { λ r. ⌜ r ≡ readingAt uniform u ⌝ }
+// The instant of a pair, or the first thing that is wrong with it: scale and table were asked for.
+fn read_in<'a>(
+    scale: Scale,
+    count: usize,
+    months: &'a [u32; 64],
+    offsets: &'a [i32; 64],
+    date: JulianDate,
+) -> InstantAnswer
+    ensures { λ a. ⌜ a ≡ readIn (tabled count (now (months .entry)) (now (offsets .entry))) scale date ⌝ }
 {
-    let second = u / 1000000;
-    let span = calendar::month_of_day((second / 86400) as u32);
-    let m = span.number;
-    let rest = (second - 86400 * span.start) as u32;
-    let label = Label {
-        year: m / 12,
-        month: m % 12 + 1,
-        day: rest / 86400 + 1,
-        hour: rest / 3600 % 24,
-        minute: rest / 60 % 60,
-        second: rest % 60,
-    };
-    Reading {
-        label,
-        micro: (u % 1000000) as u32,
-    }
-}
-
-pub fn read_julian(t: Table, scale: u32, date: JulianDate) -> InstantAnswer
-    ensures { λ a. ⌜ a ≡ dateAnswer t scale date ⌝ }
-{
-    if Scale::MOST < scale {
-        return InstantAnswer::Refused(Refusal::Ask);
-    }
-    let count = t.count;
-    if !leap::is_accepted_in(count, &t.months, &t.offsets) {
-        return InstantAnswer::Refused(Refusal::Table);
-    }
     if !is_midnight(date.midnight) {
         return InstantAnswer::Refused(Refusal::Number);
     }
@@ -189,15 +156,16 @@ pub fn read_julian(t: Table, scale: u32, date: JulianDate) -> InstantAnswer
         return InstantAnswer::Refused(Refusal::Range);
     }
     // A fraction that rounds to a whole day makes this the next midnight.
-    let u = 86400000000 * day_number(date.midnight) + micros_of(date.fraction);
-    if 315569519999999999 < u {
-        return InstantAnswer::Refused(Refusal::Range);
+    let u = DAY * day_number(date.midnight) + micros_of(date.fraction);
+    stamp::instant_showing(scale, count, months, offsets, u)
+}
+
+pub fn read_julian(t: Table, scale: u32, date: JulianDate) -> InstantAnswer
+    ensures { λ a. ⌜ a ≡ readJulian t scale date ⌝ }
+{
+    let count = t.count;
+    match stamp::asked(count, &t.months, &t.offsets, scale) {
+        ScaleAnswer::On(s) => read_in(s, count, &t.months, &t.offsets, date),
+        ScaleAnswer::Refused(why) => InstantAnswer::Refused(why),
     }
-    stamp::instant_in(
-        Scale::numbered(scale),
-        count,
-        &t.months,
-        &t.offsets,
-        reading_at(u),
-    )
 }
