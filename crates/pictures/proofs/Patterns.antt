@@ -1,6 +1,6 @@
 -- Patterns: byte by byte, from the front, and at a place.
 -- Assumes nothing.
-use mathlib.Core.Path.{_≡_, refl, sym, ap, ap₂, _∙_}
+use mathlib.Core.Path.{_≡_, refl, ap, subst, _∙_}
 use mathlib.Core.Bool.{Bool, true, false, _&&_, _||_}
 use mathlib.Core.Logic.{_⊎_, inl, inr, ⊎-elim}
 use mathlib.Core.List.{List, [], _∷_, _++_}
@@ -12,8 +12,9 @@ use borrow.Author.Tests.{eqb-true, leb-true}
 use lib.Dec.{eqb, leb}
 use lib.ListN.{length, take, drop, getD, drop-of-length-le}
 use lib.Seq.{drop-cons, take-length}
-use Rattle.laws.proofs.Cases.{and-l, and-r, one-of}
-use Rattle.digits.specs.Decimals.{digitValue}
+use Rattle.laws.proofs.Cases.{both, and-l, and-r, join, one-of}
+use Rattle.digits.specs.Decimals.{digitValue, allDigits}
+use Rattle.pictures.specs.Parts.{Digits, Numbers}
 use Rattle.pictures.specs.Reading.{asShown, like, filled, rightLength}
 
 and-assoc : (a b c : Bool) → ((a && b) && c) ≡ (a && (b && c))
@@ -51,6 +52,35 @@ like-at [] s k e h = absurd (not-suc-le-zero h)
 like-at (c ∷ cs) [] k e h = cc
 like-at (c ∷ cs) (b ∷ s) zero e h = and-l _ (like cs s) e
 like-at (c ∷ cs) (b ∷ s) (suc k) e h = like-at cs s k (and-r (asShown c b) _ e) (le-of-suc-le-suc h)
+
+-- w digits from place i on in a pattern, and so in a text
+abbrev pub zerosAt : List ℕ → ℕ → ℕ → Bool
+zerosAt cs i zero = leb i (length cs)
+zerosAt cs i (suc w) = eqb (getD cs i 0) 48 && zerosAt cs (i + 1) w
+
+pub digits-at : (cs : List ℕ) {t : List ℕ} (i w : ℕ) → zerosAt cs i w ≡ true → like cs t ≡ true → Digits t i w
+unfolding allDigits
+digits-at cs {t} i zero e h = record { inside = omega (arith, leb-true i (length cs) e, like-length cs t h); all = refl }
+digits-at cs {t} i (suc w) e h =
+    let p = both (eqb (getD cs i 0) 48) (zerosAt cs (i + 1) w) e in
+    let r = digits-at cs {t = t} (i + 1) w (p .1) h in
+    let l : i < length cs = omega (arith, r .inside, like-length cs t h) in
+    record {
+      inside = omega (arith, r .inside);
+      all = join (subst (λ (c : ℕ). asShown c (getD t i 0) ≡ true) (eqb-true (getD cs i 0) 48 (p .0)) (like-at cs t i h l)) (r .all);
+    }
+
+-- all the numbers but those of the date
+pub numbers-at : (cs : List ℕ) {t : List ℕ} (at : ℕ) → zerosAt cs 0 4 ≡ true → zerosAt cs at 2 ≡ true → zerosAt cs (at + 3) 2 ≡ true → zerosAt cs (at + 6) 2 ≡ true → zerosAt cs (at + 9) 6 ≡ true
+    → like cs t ≡ true → Numbers t at
+numbers-at cs at y h m s u e =
+    record {
+      year = digits-at cs 0 4 y e;
+      hour = digits-at cs at 2 h e;
+      minute = digits-at cs (at + 3) 2 m e;
+      second = digits-at cs (at + 6) 2 s e;
+      micro = digits-at cs (at + 9) 6 u e;
+    }
 
 -- a byte that is not as shown
 pub unlike : (cs s : List ℕ) (k : ℕ) → k < length cs → asShown (getD cs k 0) (getD s k 0) ≡ false → like cs s ≡ false

@@ -24,12 +24,13 @@ use Rattle.pictures.specs.declared.Date.the-variants.{Numbered, OfYear, 
 use Rattle.pictures.specs.declared.Fields.{Fields}
 use Rattle.pictures.specs.declared.FieldsAnswer.{FieldsAnswer}
 use Rattle.pictures.specs.declared.FieldsAnswer.the-variants.{Shows, NoPicture}
+use Rattle.pictures.specs.Parts.{Numbers}
 use Rattle.pictures.specs.Pictures.{dateText, clockText, fractionText, pictureText, DateFits, WellFormed}
 use Rattle.pictures.specs.Reading.{asShown, like, filled, rightLength, hasPicture, numberedPattern, ofYearPattern, namedPattern, monthIn, fieldsIn, numberedIn, ofYearIn, namedIn, orElse, readNumbered, readOfYear, readNamed, readFields}
 use Rattle.pictures.specs.Promise.{Pictured, Determined}
 use Rattle.pictures.proofs.Spelling.{digit-yes, all-bytes, number-whole, again}
 use Rattle.pictures.proofs.Fraction.{cut, fraction-filled, fraction-length, fraction-right}
-use Rattle.pictures.proofs.Patterns.{and-false, like-length, like-at, unlike, countless, counts-none, lengths}
+use Rattle.pictures.proofs.Patterns.{and-false, digits-at, numbers-at, like-length, like-at, unlike, countless, counts-none, lengths}
 
 -- the same fields with another number of digits
 abbrev with : Fields → ℕ → Fields
@@ -79,51 +80,50 @@ module _ (cs t : List ℕ) (h : like cs t ≡ true) where
   all : (n : ℕ) → length cs ≡ n → bytesAt t 0 n ≡ t
   all n e = subst (λ (j : ℕ). bytesAt t 0 j ≡ t) (like-length cs t h ∙ e) (all-bytes t)
 
-clock-text : (t : List ℕ) (at : ℕ) → allDigits (bytesAt t at 2) ≡ true → code ":" ≡ getD t (at + 2) 0 → allDigits (bytesAt t (at + 3) 2) ≡ true → code ":" ≡ getD t (at + 5) 0 → allDigits (bytesAt t (at + 6) 2) ≡ true
-    → code "." ≡ getD t (at + 8) 0 → allDigits (bytesAt t (at + 9) 6) ≡ true
+clock-text : (t : List ℕ) (at : ℕ) → Numbers t at → code ":" ≡ getD t (at + 2) 0 → code ":" ≡ getD t (at + 5) 0 → code "." ≡ getD t (at + 8) 0
     → clockText (number t at 2) (number t (at + 3) 2) (number t (at + 6) 2) ++ fractionText 6 (number t (at + 9) 6) ≡ bytesAt t at 2 ++ getD t (at + 2) 0 ∷ bytesAt t (at + 3) 2 ++ getD t (at + 5) 0 ∷ bytesAt t (at + 6) 2 ++ getD t (at + 8) 0 ∷ bytesAt t (at + 9) 6
-clock-text t at h p m q s r u =
-    let eh = again (bytesAt t at 2) 0 h in
-    let em = again (bytesAt t (at + 3) 2) 0 m in
-    let es = again (bytesAt t (at + 6) 2) 0 s in
-    let eu = again (bytesAt t (at + 9) 6) 0 u in
-    λ i. eh i ++ p i ∷ em i ++ q i ∷ es i ++ r i ∷ eu i
+clock-text t at n p q r =
+    let h = again (bytesAt t at 2) 0 (n .hour .all) in
+    let m = again (bytesAt t (at + 3) 2) 0 (n .minute .all) in
+    let s = again (bytesAt t (at + 6) 2) 0 (n .second .all) in
+    let u = again (bytesAt t (at + 9) 6) 0 (n .micro .all) in
+    λ i. h i ++ p i ∷ m i ++ q i ∷ s i ++ r i ∷ u i
 
 numbered-text : (t : List ℕ) → like numberedPattern t ≡ true → t ≡ pictureText (numberedIn t 6)
-unfolding pictureText allDigits
+unfolding pictureText
 numbered-text t h =
     let a = at numberedPattern t h in
-    let y = again (bytesAt t 0 4) 0 (join (a 0 tt) (join (a 1 tt) (join (a 2 tt) (join (a 3 tt) refl)))) in
-    let m = again (bytesAt t 5 2) 0 (join (a 5 tt) (join (a 6 tt) refl)) in
-    let d = again (bytesAt t 8 2) 0 (join (a 8 tt) (join (a 9 tt) refl)) in
-    let p = (eqb-true 45 (getD t 4 0) (a 4 tt)) in
-    let q = (eqb-true 45 (getD t 7 0) (a 7 tt)) in
-    let r = (eqb-true 84 (getD t 10 0) (a 10 tt)) in
-    let c = clock-text t 11 (join (a 11 tt) (join (a 12 tt) refl)) (eqb-true 58 (getD t 13 0) (a 13 tt)) (join (a 14 tt) (join (a 15 tt) refl)) (eqb-true 58 (getD t 16 0) (a 16 tt)) (join (a 17 tt) (join (a 18 tt) refl)) (eqb-true 46 (getD t 19 0) (a 19 tt)) (join (a 20 tt) (join (a 21 tt) (join (a 22 tt) (join (a 23 tt) (join (a 24 tt) (join (a 25 tt) refl)))))) in
+    let c = clock-text t 11 (numbers-at numberedPattern 11 refl refl refl refl refl h) (eqb-true 58 (getD t 13 0) (a 13 tt)) (eqb-true 58 (getD t 16 0) (a 16 tt)) (eqb-true 46 (getD t 19 0) (a 19 tt)) in
+    let y = again (bytesAt t 0 4) 0 (digits-at numberedPattern {t = t} 0 4 refl h .all) in
+    let m = again (bytesAt t 5 2) 0 (digits-at numberedPattern {t = t} 5 2 refl h .all) in
+    let d = again (bytesAt t 8 2) 0 (digits-at numberedPattern {t = t} 8 2 refl h .all) in
+    let p = eqb-true 45 (getD t 4 0) (a 4 tt) in
+    let q = eqb-true 45 (getD t 7 0) (a 7 tt) in
+    let r = eqb-true 84 (getD t 10 0) (a 10 tt) in
     sym (all numberedPattern t h 26 refl) ∙ sym (λ i. y i ++ p i ∷ m i ++ q i ∷ d i ++ r i ∷ c i)
 
 of-year-text : (t : List ℕ) → like ofYearPattern t ≡ true → t ≡ pictureText (ofYearIn t 6)
-unfolding pictureText allDigits
+unfolding pictureText
 of-year-text t h =
     let a = at ofYearPattern t h in
-    let y = again (bytesAt t 0 4) 0 (join (a 0 tt) (join (a 1 tt) (join (a 2 tt) (join (a 3 tt) refl)))) in
-    let d = again (bytesAt t 5 3) 0 (join (a 5 tt) (join (a 6 tt) (join (a 7 tt) refl))) in
-    let p = (eqb-true 45 (getD t 4 0) (a 4 tt)) in
-    let r = (eqb-true 84 (getD t 8 0) (a 8 tt)) in
-    let c = clock-text t 9 (join (a 9 tt) (join (a 10 tt) refl)) (eqb-true 58 (getD t 11 0) (a 11 tt)) (join (a 12 tt) (join (a 13 tt) refl)) (eqb-true 58 (getD t 14 0) (a 14 tt)) (join (a 15 tt) (join (a 16 tt) refl)) (eqb-true 46 (getD t 17 0) (a 17 tt)) (join (a 18 tt) (join (a 19 tt) (join (a 20 tt) (join (a 21 tt) (join (a 22 tt) (join (a 23 tt) refl)))))) in
+    let c = clock-text t 9 (numbers-at ofYearPattern 9 refl refl refl refl refl h) (eqb-true 58 (getD t 11 0) (a 11 tt)) (eqb-true 58 (getD t 14 0) (a 14 tt)) (eqb-true 46 (getD t 17 0) (a 17 tt)) in
+    let y = again (bytesAt t 0 4) 0 (digits-at ofYearPattern {t = t} 0 4 refl h .all) in
+    let d = again (bytesAt t 5 3) 0 (digits-at ofYearPattern {t = t} 5 3 refl h .all) in
+    let p = eqb-true 45 (getD t 4 0) (a 4 tt) in
+    let r = eqb-true 84 (getD t 8 0) (a 8 tt) in
     sym (all ofYearPattern t h 24 refl) ∙ sym (λ i. y i ++ p i ∷ d i ++ r i ∷ c i)
 
 named-text : (t : List ℕ) → like namedPattern t ≡ true → 1 ≤ monthIn t → t ≡ pictureText (namedIn t 6)
-unfolding pictureText allDigits
+unfolding pictureText
 named-text t h g =
     let a = at namedPattern t h in
-    let y = again (bytesAt t 0 4) 0 (join (a 0 tt) (join (a 1 tt) (join (a 2 tt) (join (a 3 tt) refl)))) in
+    let c = clock-text t 12 (numbers-at namedPattern 12 refl refl refl refl refl h) (eqb-true 58 (getD t 14 0) (a 14 tt)) (eqb-true 58 (getD t 17 0) (a 17 tt)) (eqb-true 46 (getD t 20 0) (a 20 tt)) in
+    let y = again (bytesAt t 0 4) 0 (digits-at namedPattern {t = t} 0 4 refl h .all) in
     let m = named-is (bytesAt t 5 3) g .1 in
-    let d = again (bytesAt t 9 2) 0 (join (a 9 tt) (join (a 10 tt) refl)) in
-    let p = (eqb-true 32 (getD t 4 0) (a 4 tt)) in
-    let q = (eqb-true 32 (getD t 8 0) (a 8 tt)) in
-    let r = (eqb-true 32 (getD t 11 0) (a 11 tt)) in
-    let c = clock-text t 12 (join (a 12 tt) (join (a 13 tt) refl)) (eqb-true 58 (getD t 14 0) (a 14 tt)) (join (a 15 tt) (join (a 16 tt) refl)) (eqb-true 58 (getD t 17 0) (a 17 tt)) (join (a 18 tt) (join (a 19 tt) refl)) (eqb-true 46 (getD t 20 0) (a 20 tt)) (join (a 21 tt) (join (a 22 tt) (join (a 23 tt) (join (a 24 tt) (join (a 25 tt) (join (a 26 tt) refl)))))) in
+    let d = again (bytesAt t 9 2) 0 (digits-at namedPattern {t = t} 9 2 refl h .all) in
+    let p = eqb-true 32 (getD t 4 0) (a 4 tt) in
+    let q = eqb-true 32 (getD t 8 0) (a 8 tt) in
+    let r = eqb-true 32 (getD t 11 0) (a 11 tt) in
     sym (all namedPattern t h 27 refl) ∙ sym (λ i. y i ++ p i ∷ m i ++ q i ∷ d i ++ r i ∷ c i)
 
 -- ---- and these are well formed

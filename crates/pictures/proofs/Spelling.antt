@@ -10,10 +10,11 @@ use borrow.Author.Tests.{le-leb}
 use lib.Arith.{mod-mul}
 use lib.Dec.{lit<}
 use lib.ListN.{length, take, drop, getD, replicate}
-use Rattle.laws.proofs.Cases.{and-l, and-r, join}
+use Rattle.laws.proofs.Cases.{both, and-l, and-r, join}
 use Rattle.digits.specs.Bytes.{bytesAt}
 use Rattle.digits.specs.Decimals.{isDigit, digitValue, allDigits, digitsOf, spelled, number}
 use Rattle.digits.proofs.Bytes.{bytes-length}
+use Rattle.pictures.specs.Parts.{Digits}
 use Rattle.digits.proofs.Decimals.{digit-range, value-digit, value-most, number-lt}
 
 pub digit-yes : (d : ℕ) → isDigit (48 + d % 10) ≡ true
@@ -78,6 +79,37 @@ again (b ∷ l) a e =
     let i : isDigit b ≡ true = and-l _ (allDigits l) e in
     let d : 48 + n / p % 10 ≡ b = rw q (omega (arith, value-most b, digit-range b i, value-digit b i)) in
     ap₂ _∷_ d (again l (a * 10 + v) (and-r (isDigit b) _ e))
+
+-- ---- some of the digits, and what they stand for
+
+low-bits : (b : ℕ) → isDigit b ≡ true → b % 16 ≡ digitValue b
+low-bits b e = omega (arith, digit-range b e, value-digit b e)
+
+pub one-low : (s : List ℕ) (i : ℕ) → Digits s i 1 → getD s i 0 % 16 ≡ number s i 1
+unfolding spelled allDigits
+one-low s i d = omega (arith, low-bits (getD s i 0) (and-l _ true (d .all)))
+
+pub pair-low : (s : List ℕ) (i : ℕ) → Digits s i 2 → getD s i 0 % 16 * 10 + getD s (i + 1) 0 % 16 ≡ number s i 2
+unfolding spelled allDigits
+pair-low s i d =
+    let p = both (isDigit (getD s i 0)) (isDigit (getD s (i + 1) 0) && true) (d .all) in
+    omega (arith, low-bits (getD s i 0) (p .0), low-bits (getD s (i + 1) 0) (and-l _ true (p .1)))
+
+digits-both : (s : List ℕ) (i w v : ℕ) → allDigits (bytesAt s i (w + v)) ≡ true → (allDigits (bytesAt s i w) ≡ true) × (allDigits (bytesAt s (i + w) v) ≡ true)
+unfolding allDigits
+digits-both s i zero v e = (refl, rw (add-zero) (rw (zero-add) at e))
+digits-both s i (suc w) v e =
+    let f = rw suc-add at e in
+    let p = both (isDigit (getD s i 0)) (allDigits (bytesAt s (i + 1) (w + v))) f in
+    let r = digits-both s (i + 1) w v (p .1) in
+    let j : i + 1 + w ≡ i + suc w = omega arith in
+    (join (p .0) (r .0), subst (λ (k : ℕ). allDigits (bytesAt s k v) ≡ true) j (r .1))
+
+pub digits-front : {s : List ℕ} {i : ℕ} (w v : ℕ) → Digits s i (w + v) → Digits s i w
+digits-front {s} {i} w v d = record { inside = omega (arith, d .inside); all = digits-both s i w v (d .all) .0 }
+
+pub digits-end : {s : List ℕ} {i : ℕ} (w v : ℕ) → Digits s i (w + v) → Digits s (i + w) v
+digits-end {s} {i} w v d = record { inside = omega (arith, d .inside); all = digits-both s i w v (d .all) .1 }
 
 -- ---- zeros in place of digits that are not shown
 

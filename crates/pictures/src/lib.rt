@@ -3,11 +3,10 @@ ghost use mathlib.Core.Path.{_≡_};
 ghost use mathlib.Core.List.{[], _++_};
 ghost use Prim.Native.Nat.{_+_, _-_, min, _≤_, _<_};
 ghost use lib.ListN.{length};
-ghost use Rattle.laws.specs.Placed.{place};
 ghost use Rattle.answer.specs.Buffers.{written, bufferAfter};
-ghost use Rattle.digits.specs.Decimals.{isDigit, digitValue, number};
+ghost use Rattle.digits.specs.Decimals.{number};
 ghost use Rattle.pictures.specs.Pictures.{dateText, clockText, fractionText, pictureText};
-ghost use Rattle.pictures.specs.Parts.{Holds};
+ghost use Rattle.pictures.specs.Parts.{Holds, Digits, Numbers};
 ghost use Rattle.pictures.specs.Reading.{asShown, like, rightLength, fieldsIn, readNumbered, readOfYear, readNamed, readFields};
 use answer::Written;
 
@@ -169,26 +168,15 @@ fn clock_length(digits: u32) -> usize
     15
 }
 
-// Stores the bytes of src from index `at` on.
-fn put(out: &mut [u8], at: usize, src: &[u8])
-    requires { ⌜ at + length (now src) ≤ length (now out) ⌝ }
-    ensures { λ _. ⌜ now (out .exit) ≡ place (now (out .entry)) at (now (src .entry)) ⌝ }
-{
-    bytes::copy(src, &mut out[at..]);
-}
-
 // Two texts, the one behind the other.
 fn joined(a: &[u8], b: &[u8]) -> Line
     requires { ⌜ length (now a) + length (now b) ≤ 27 ⌝ }
     ensures { λ r. ⌜ Holds (r .bytes) (r .len) 27 (now (a .entry) ++ now (b .entry)) ⌝ }
 {
     let mut bytes = [0u8; 27];
-    put(&mut bytes, 0, a);
-    put(&mut bytes, a.len(), b);
-    Line {
-        bytes,
-        len: a.len() + b.len(),
-    }
+    digits::append(&mut bytes, 0, a);
+    let len = digits::append(&mut bytes, a.len(), b);
+    Line { bytes, len }
 }
 
 fn shown(f: Fields) -> Line
@@ -215,49 +203,30 @@ pub fn write_fields(f: Fields, out: &mut [u8]) -> Written
 
 // ---- from text to fields
 
-fn is_digit(b: u8) -> bool
-    ensures { λ r. ⌜ r ≡ isDigit b ⌝ }
-{
-    if b < b'0' {
-        return false;
-    }
-    b <= b'9'
-}
-
-// What a digit stands for, 0 for any other byte.
-fn value(b: u8) -> u32
-    ensures { λ r. ⌜ (r ≡ digitValue b) × (r ≤ 9) ⌝ }
-{
-    if is_digit(b) {
-        return (b - b'0') as u32;
-    }
-    0
-}
-
-// The number that two bytes spell.
+// The number that two digits spell. What a digit stands for is its last four bits.
 fn two_at(t: &[u8], i: usize) -> u32
-    requires { ⌜ i + 2 ≤ length (now t) ⌝ }
+    requires { ⌜ Digits (now t) i 2 ⌝ }
     ensures { λ r. ⌜ (r ≡ number (now (t .entry)) i 2) × (r ≤ 99) ⌝ }
 {
-    value(t[i]) * 10 + value(t[i + 1])
+    (t[i] % 16) as u32 * 10 + (t[i + 1] % 16) as u32
 }
 
 fn three_at(t: &[u8], i: usize) -> u32
-    requires { ⌜ i + 3 ≤ length (now t) ⌝ }
+    requires { ⌜ Digits (now t) i 3 ⌝ }
     ensures { λ r. ⌜ r ≡ number (now (t .entry)) i 3 ⌝ }
 {
-    two_at(t, i) * 10 + value(t[i + 2])
+    two_at(t, i) * 10 + (t[i + 2] % 16) as u32
 }
 
 fn four_at(t: &[u8], i: usize) -> u32
-    requires { ⌜ i + 4 ≤ length (now t) ⌝ }
+    requires { ⌜ Digits (now t) i 4 ⌝ }
     ensures { λ r. ⌜ (r ≡ number (now (t .entry)) i 4) × (r ≤ 9999) ⌝ }
 {
     two_at(t, i) * 100 + two_at(t, i + 2)
 }
 
 fn six_at(t: &[u8], i: usize) -> u32
-    requires { ⌜ i + 6 ≤ length (now t) ⌝ }
+    requires { ⌜ Digits (now t) i 6 ⌝ }
     ensures { λ r. ⌜ r ≡ number (now (t .entry)) i 6 ⌝ }
 {
     four_at(t, i) * 100 + two_at(t, i + 4)
@@ -268,7 +237,7 @@ fn as_shown(c: u8, b: u8) -> bool
     ensures { λ r. ⌜ r ≡ asShown c b ⌝ }
 {
     if c == b'0' {
-        return is_digit(b);
+        return (b'0' <= b) & (b <= b'9');
     }
     if c == b'?' {
         return true;
@@ -316,7 +285,7 @@ fn digits_shown(size: usize, before: usize) -> u32
 
 // The fields of a text in full, with the clock from `at` on.
 fn fields_in(t: &[u8], at: usize, digits: u32, date: Date) -> Fields
-    requires { ⌜ (4 ≤ at) × (at + 15 ≤ length (now t)) ⌝ }
+    requires { ⌜ Numbers (now t) at ⌝ }
     ensures { λ r. ⌜ r ≡ fieldsIn (now (t .entry)) at digits date ⌝ }
 {
     Fields {

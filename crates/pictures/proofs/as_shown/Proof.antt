@@ -1,11 +1,10 @@
-use mathlib.Core.Path.{_∙_}
 use borrow.Author.Needs.{needs}
 use borrow.Author.Tests.{eq-eqb, ne-eqb}
 use Rattle.pictures.proofs.as_shown.Statement.{statement}
 use Rattle.pictures.proofs.as_shown.Tie as tie
 
 returns : tie.Need-returns
-returns c = rw (eq-eqb _ _ (c .before .if1 .taken)) (c .is-digit .ensures)
+returns c = rw (eq-eqb _ _ (c .if1 .taken))
 
 returns-2 : tie.Need-returns-2
 returns-2 c = rw (ne-eqb _ _ (c .before .if1 .left), eq-eqb _ _ (c .if2 .taken))
@@ -14,4 +13,4 @@ returns-3 : tie.Need-returns-3
 returns-3 c = rw (ne-eqb _ _ (c .before .if1 .left), ne-eqb _ _ (c .if2 .left))
 
 pub as-shown-spec : {M : Type 1} → statement M
-as-shown-spec = tie.close (tie.spec (λ c κs. search needs) returns returns-2 returns-3)
+as-shown-spec = tie.close (tie.spec returns returns-2 returns-3)

@@ -10,7 +10,7 @@ use Rattle.laws.proofs.Branches.{and-no, and-rest, cond-yes, cond-rest, fails, 
 use Rattle.laws.proofs.Cases.{join}
 use Rattle.pictures.specs.declared.FieldsAnswer.the-variants.{Shows}
 use Rattle.pictures.specs.Reading.{like, filled, rightLength, hasPicture, namedPattern, monthIn, readNamed}
-use Rattle.pictures.proofs.Patterns.{is-filled, length-most}
+use Rattle.pictures.proofs.Patterns.{is-filled, length-most, digits-at, numbers-at}
 use Rattle.pictures.proofs.read_named.Statement.{statement}
 use Rattle.pictures.proofs.read_named.Tie as tie
 
@@ -63,4 +63,4 @@ returns-4 c =
 pub read-named-spec : {M : Type 1} → statement M
 read-named-spec =
     tie.close
-    (tie.spec (λ c κs. search needs) returns (λ c. search needs) copy-requires (λ c. search needs) (λ c. search needs) (λ c κs. search needs) returns-2 (λ c. search needs) (λ c. search needs) (λ c. search needs) (λ c κs. search needs) returns-3 digits-shown-requires (λ c. search needs) (λ c κs. search needs) (λ c. search needs) (λ c κs. search needs) returns-4)
+    (tie.spec (λ c κs. search needs) returns (λ c. search needs) copy-requires (λ c. search needs) (λ c. search needs) (λ c κs. search needs) returns-2 (λ c. search needs) (λ c. search needs) (λ c. search needs) (λ c κs. search needs) returns-3 digits-shown-requires (λ c. search needs) (λ c κs. let e = c .before .before .before .before in digits-at namedPattern 9 2 refl (holds (e .before .is-like .ensures) (e .if2 .left))) (λ c. search needs) (λ c κs. let e = c .before .before .before .before .before .before in numbers-at namedPattern 12 refl refl refl refl refl (holds (e .before .is-like .ensures) (e .if2 .left))) returns-4)

@@ -9,7 +9,7 @@ use Rattle.laws.proofs.Branches.{and-no, and-rest, cond-yes, cond-rest, fails, 
 use Rattle.laws.proofs.Cases.{join}
 use Rattle.pictures.specs.declared.FieldsAnswer.the-variants.{Shows}
 use Rattle.pictures.specs.Reading.{like, filled, rightLength, ofYearPattern, readOfYear}
-use Rattle.pictures.proofs.Patterns.{is-filled, length-most}
+use Rattle.pictures.proofs.Patterns.{is-filled, length-most, digits-at, numbers-at}
 use Rattle.pictures.proofs.read_of_year.Statement.{statement}
 use Rattle.pictures.proofs.read_of_year.Tie as tie
 
@@ -47,4 +47,4 @@ returns-3 c =
 pub read-of-year-spec : {M : Type 1} → statement M
 read-of-year-spec =
     tie.close
-    (tie.spec (λ c κs. search needs) returns (λ c. search needs) copy-requires (λ c. search needs) (λ c. search needs) (λ c κs. search needs) returns-2 digits-shown-requires (λ c. search needs) (λ c κs. search needs) (λ c. search needs) (λ c κs. search needs) returns-3)
+    (tie.spec (λ c κs. search needs) returns (λ c. search needs) copy-requires (λ c. search needs) (λ c. search needs) (λ c κs. search needs) returns-2 digits-shown-requires (λ c. search needs) (λ c κs. let e = c .before .before in digits-at ofYearPattern 5 3 refl (holds (e .before .is-like .ensures) (e .if2 .left))) (λ c. search needs) (λ c κs. let e = c .before .before .before .before in numbers-at ofYearPattern 9 refl refl refl refl refl (holds (e .before .is-like .ensures) (e .if2 .left))) returns-3)
