@@ -2,12 +2,13 @@
 ghost use Prim.Native.Nat.{_≤_, _<_};
 ghost use lib.ListN.{length};
 use crate::answers::answer;
+use crate::tell::tell;
 use leap::Table;
 use libc::STDIN_FILENO;
 use libc::STDOUT_FILENO;
 
 // How far a chunk is read, how many bytes of the line are held (the largest number for an over-long one), and whether the line ended.
-pub struct Taken {
+pub struct Cut {
     pub at: usize,
     pub len: usize,
     pub ended: bool,
@@ -23,7 +24,7 @@ fn hold(line: &mut [u8], len: usize, b: u8) -> usize {
 }
 
 // Moves bytes of the chunk to the line, up to a line end.
-fn take_line(chunk: &[u8], from: usize, line: &mut [u8], held: usize) -> Taken
+fn take_line(chunk: &[u8], from: usize, line: &mut [u8], held: usize) -> Cut
     requires { ⌜ from < length (now chunk) ⌝ }
     ensures { λ r. ⌜ (from < r .at) × (r .at ≤ length (now (chunk .entry))) ⌝ }
 {
@@ -33,7 +34,7 @@ fn take_line(chunk: &[u8], from: usize, line: &mut [u8], held: usize) -> Taken
         let b = chunk[i];
         i += 1;
         if b == 10 {
-            return Taken {
+            return Cut {
                 at: i,
                 len,
                 ended: true,
@@ -41,7 +42,7 @@ fn take_line(chunk: &[u8], from: usize, line: &mut [u8], held: usize) -> Taken
         }
         len = hold(line, len, b);
     }
-    Taken {
+    Cut {
         at: i,
         len,
         ended: false,
@@ -62,11 +63,13 @@ fn answer_line(line: &[u8], s: State, out: &mut [u8]) -> State {
     let used = room(out, s.used);
     if n <= line.len() {
         let k = lines::front(line, n);
-        let a = answer(&line[..k], table, out, used);
+        let a = answer(&line[..k], table);
+        let said = a.said;
         let next = a.table;
+        let end = tell(said, out, used);
         return State {
             len: 0,
-            used: digits::append(out, a.used, b"\n"),
+            used: digits::append(out, end, b"\n"),
             table: next,
         };
     }
@@ -92,8 +95,9 @@ fn flush(out: &[u8], used: usize) {
     io::write_all(STDOUT_FILENO, &out[..n]);
 }
 
-// Answers every line that ends in the chunk.
-fn answer_chunk(chunk: &[u8], line: &mut [u8], state: State, out: &mut [u8]) -> State {
+// Answers every line that ends in the chunk, and writes the answers out.
+fn answer_chunk(chunk: &[u8], line: &mut [u8], state: State) -> State {
+    let mut out = io::large_buffer();
     let mut s = state;
     let mut at = 0;
     while at < chunk.len() {
@@ -101,26 +105,12 @@ fn answer_chunk(chunk: &[u8], line: &mut [u8], state: State, out: &mut [u8]) -> 
         at = t.at;
         s.len = t.len;
         if t.ended {
-            s = answer_line(line, s, out);
+            s = answer_line(line, s, &mut out);
         }
     }
-    s
-}
-
-// One read: what came is answered, and the answers are written out before the next read.
-pub(crate) fn one_turn(chunk: &mut [u8], line: &mut [u8], state: State, out: &mut [u8]) -> Turn {
-    let got = libc::read(STDIN_FILENO, chunk);
-    if got <= 0 {
-        return Turn { more: false, state };
-    }
-    let n = io::count(got, chunk);
-    let mut s = answer_chunk(&chunk[..n], line, state, out);
-    flush(out, s.used);
+    flush(&out, s.used);
     s.used = 0;
-    Turn {
-        more: true,
-        state: s,
-    }
+    s
 }
 
 pub struct Turn {
@@ -128,13 +118,28 @@ pub struct Turn {
     pub state: State,
 }
 
+// One read: what came is answered before the next read.
+fn one_turn(line: &mut [u8], state: State) -> Turn {
+    let mut chunk = io::large_buffer();
+    let got = libc::read(STDIN_FILENO, &mut chunk);
+    if got <= 0 {
+        return Turn { more: false, state };
+    }
+    let n = io::count(got, &chunk);
+    let s = answer_chunk(&chunk[..n], line, state);
+    Turn {
+        more: true,
+        state: s,
+    }
+}
+
 // Reads and answers to the end of the input. A proved loop has to end, and nothing says that the input does: the turns are
 // counted down from a number that no run uses up.
-fn run(chunk: &mut [u8], line: &mut [u8], state: State, out: &mut [u8]) -> State {
+fn run(line: &mut [u8], state: State) -> State {
     let mut s = state;
     let mut turns = u64::MAX;
     while turns > 0 {
-        let t = one_turn(chunk, line, s, out);
+        let t = one_turn(line, s);
         s = t.state;
         if !t.more {
             return s;
@@ -145,18 +150,21 @@ fn run(chunk: &mut [u8], line: &mut [u8], state: State, out: &mut [u8]) -> State
 }
 
 // The last line may lack its end.
+fn last(line: &[u8], s: State) {
+    let mut out = io::buffer();
+    let t = answer_line(line, s, &mut out);
+    flush(&out, t.used);
+}
+
 pub(crate) fn pump() {
-    let mut chunk = io::large_buffer();
     let mut line = [0u8; 2048];
-    let mut out = io::large_buffer();
     let start = State {
         len: 0,
         used: 0,
         table: leap::bulletin_c(),
     };
-    let s = run(&mut chunk, &mut line, start, &mut out);
+    let s = run(&mut line, start);
     if s.len != 0 {
-        let last = answer_line(&line, s, &mut out);
-        flush(&out, last.used);
+        last(&line, s);
     }
 }

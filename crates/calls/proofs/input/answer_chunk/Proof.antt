@@ -2,13 +2,13 @@
 -- Assumes nothing.
 use Prim.Native.Nat.{_-_, _≤_}
 use mathlib.Core.Path.{_≡_}
-use borrow.Author.Needs.{needs}
 use lib.ListN.{length}
+use borrow.Author.Needs.{needs}
 use Rattle.calls.proofs.input.answer_chunk.Statement.{statement}
 use Rattle.calls.proofs.input.answer_chunk.Tie as tie
 
 abbrev Inv-loop : tie.InvT-loop
-Inv-loop chunk line₀ out₀ s₀ at₀ line out s at = (at ≤ length chunk) × (length line ≡ length line₀) × (length out ≡ length out₀)
+Inv-loop chunk line₀ out₀ s₀ at₀ line out s at = (at ≤ length chunk) × (length line ≡ length line₀) × (65536 ≡ length out)
 
 abbrev μ-loop : tie.MeasureT-loop
 μ-loop chunk line₀ out₀ s₀ at₀ line out s at = length chunk - at
@@ -19,13 +19,16 @@ answer-chunk-spec =
     (tie.spec
     Inv-loop
     μ-loop
-    (λ c. search needs)
-    (λ c κs. search needs)
     (λ c κs. search needs)
     (λ c. search needs)
+    (λ c κs. search needs)
+    (λ c. search needs)
+    (λ c κs. search needs)
     (λ c. search needs)
     (λ c. search needs)
     (λ c. search needs)
     (λ c. search needs)
+    (λ c. search needs)
+    (λ c κs. search needs)
     (λ c. search needs)
     (λ c. search needs))

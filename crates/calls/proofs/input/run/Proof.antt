@@ -1,17 +1,16 @@
--- The turns fall.
+-- The line keeps its length, and the turns fall.
 -- Assumes nothing.
-use Prim.Native.Nat.{_-_}
 use mathlib.Core.Path.{_≡_}
-use borrow.Author.Needs.{needs}
 use lib.ListN.{length}
+use borrow.Author.Needs.{needs}
 use Rattle.calls.proofs.input.run.Statement.{statement}
 use Rattle.calls.proofs.input.run.Tie as tie
 
 abbrev Inv-loop : tie.InvT-loop
-Inv-loop chunk₀ line₀ out₀ s₀ turns₀ chunk line out s turns = (length chunk ≡ length chunk₀) × (length line ≡ length line₀) × (length out ≡ length out₀)
+Inv-loop line₀ s₀ turns₀ line s turns = length line ≡ length line₀
 
 abbrev μ-loop : tie.MeasureT-loop
-μ-loop chunk₀ line₀ out₀ s₀ turns₀ chunk line out s turns = turns
+μ-loop line₀ s₀ turns₀ line s turns = turns
 
 pub run-spec : {M : Type 1} → statement M
 run-spec =
@@ -21,10 +20,6 @@ run-spec =
     μ-loop
     (λ c. search needs)
     (λ c κs. search needs)
-    (λ c. search needs)
-    (λ c. search needs)
-    (λ c. search needs)
-    (λ c. search needs)
     (λ c. search needs)
     (λ c. search needs)
     (λ c. search needs)

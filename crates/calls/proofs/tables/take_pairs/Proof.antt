@@ -2,8 +2,8 @@
 -- Assumes nothing.
 use Prim.Native.Nat.{_-_, _≤_}
 use borrow.Author.Needs.{needs}
-use Rattle.calls.proofs.answers.pairs.Statement.{statement}
-use Rattle.calls.proofs.answers.pairs.Tie as tie
+use Rattle.calls.proofs.tables.take_pairs.Statement.{statement}
+use Rattle.calls.proofs.tables.take_pairs.Tie as tie
 
 abbrev Inv-loop : tie.InvT-loop
 Inv-loop line k months₀ offsets₀ c₀ i₀ months offsets c i = i ≤ 64
@@ -11,8 +11,8 @@ Inv-loop line k months₀ offsets₀ c₀ i₀ months offsets c i = i ≤ 64
 abbrev μ-loop : tie.MeasureT-loop
 μ-loop line k months₀ offsets₀ c₀ i₀ months offsets c i = 64 - i
 
-pub pairs-spec : {M : Type 1} → statement M
-pairs-spec =
+pub take-pairs-spec : {M : Type 1} → statement M
+take-pairs-spec =
     tie.close
     (tie.spec
     Inv-loop

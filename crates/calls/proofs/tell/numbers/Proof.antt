@@ -1,20 +1,20 @@
--- The buffer keeps its length.
+-- The buffer keeps its length, and the place moves on.
 -- Assumes nothing.
-use Prim.Native.Nat.{_-_, _≤_}
+use Prim.Native.Nat.{_-_}
 use mathlib.Core.Path.{_≡_}
-use borrow.Author.Needs.{needs}
 use lib.ListN.{length}
-use Rattle.calls.proofs.answers.places.Statement.{statement}
-use Rattle.calls.proofs.answers.places.Tie as tie
+use borrow.Author.Needs.{needs}
+use Rattle.calls.proofs.tell.numbers.Statement.{statement}
+use Rattle.calls.proofs.tell.numbers.Tie as tie
 
 abbrev Inv-loop : tie.InvT-loop
-Inv-loop months offsets k out₀ at n₀ i₀ out n i = (i ≤ 64) × (length out ≡ length out₀)
+Inv-loop out₀ at all from to n₀ i₀ out n i = length out ≡ length out₀
 
 abbrev μ-loop : tie.MeasureT-loop
-μ-loop months offsets k out₀ at n₀ i₀ out n i = 64 - i
+μ-loop out₀ at all from to n₀ i₀ out n i = length all - i
 
-pub places-spec : {M : Type 1} → statement M
-places-spec =
+pub numbers-spec : {M : Type 1} → statement M
+numbers-spec =
     tie.close
     (tie.spec
     Inv-loop

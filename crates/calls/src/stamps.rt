@@ -1,0 +1,140 @@
+// Instants, stamps and the clock.
+use crate::said::Said;
+use crate::said::Tail;
+use crate::said::refused;
+use crate::said::said_numbers;
+use clock::TickAnswer;
+use leap::Table;
+use fields::Cursor;
+use stamp::InstantAnswer;
+use labels::Label;
+use labels::Reading;
+use stamp::Stamp;
+use stamp::StampAnswer;
+
+pub struct LabelField {
+    pub value: Label,
+    pub next: Cursor,
+}
+
+fn label_field(line: &[u8], c: Cursor) -> LabelField {
+    let year = fields::u32_field(line, c);
+    let month = fields::u32_field(line, year.next);
+    let day = fields::u32_field(line, month.next);
+    let hour = fields::u32_field(line, day.next);
+    let minute = fields::u32_field(line, hour.next);
+    let second = fields::u32_field(line, minute.next);
+    let value = Label {
+        year: year.value,
+        month: month.value,
+        day: day.value,
+        hour: hour.value,
+        minute: minute.value,
+        second: second.value,
+    };
+    let next = second.next;
+    LabelField { value, next }
+}
+
+pub(crate) fn said_instant(a: InstantAnswer, next: Cursor) -> Said {
+    match a {
+        InstantAnswer::At(x) => said_numbers(
+            Tail::Nothing,
+            2,
+            [0, x, 0, 0, 0, 0, 0, 0, 0, 0],
+            next,
+        ),
+        InstantAnswer::Refused(why) => refused(Tail::Nothing, 2, why, next),
+    }
+}
+
+// instant_of SCALE Y MO D H MI S US
+pub(crate) fn instant_of(line: &[u8], c: Cursor, t: Table) -> Said {
+    let scale = fields::u32_field(line, c);
+    let l = label_field(line, scale.next);
+    let micro = fields::u32_field(line, l.next);
+    let label = l.value;
+    let r = Reading {
+        label,
+        micro: micro.value,
+    };
+    said_instant(stamp::instant_of(t, scale.value, r), micro.next)
+}
+
+// Two numbers in front and those of a stamp.
+pub(crate) fn stamp_numbers(first: i64, z: Stamp) -> [i64; 10] {
+    let s = z.scale;
+    let n = s.number() as i64;
+    let r = z.reading;
+    let l = r.label;
+    [
+        0,
+        first,
+        n,
+        l.year as i64,
+        l.month as i64,
+        l.day as i64,
+        l.hour as i64,
+        l.minute as i64,
+        l.second as i64,
+        r.micro as i64,
+    ]
+}
+
+// The numbers but the second, which a stamp alone has no use for.
+fn without_second(a: [i64; 10]) -> [i64; 10] {
+    [a[0], a[2], a[3], a[4], a[5], a[6], a[7], a[8], a[9], 0]
+}
+
+fn stamped(a: StampAnswer, next: Cursor) -> Said {
+    match a {
+        StampAnswer::Stamped(z) => said_numbers(
+            Tail::Nothing,
+            9,
+            without_second(stamp_numbers(0, z)),
+            next,
+        ),
+        StampAnswer::Refused(why) => refused(Tail::Nothing, 9, why, next),
+    }
+}
+
+// stamp_of INSTANT SCALE
+pub(crate) fn stamp_of(line: &[u8], c: Cursor, t: Table) -> Said {
+    let x = fields::i64_field(line, c);
+    let scale = fields::u32_field(line, x.next);
+    stamped(stamp::stamp_of(t, x.value, scale.value), scale.next)
+}
+
+fn label_numbers(l: Label) -> [i64; 10] {
+    [
+        0,
+        l.year as i64,
+        l.month as i64,
+        l.day as i64,
+        l.hour as i64,
+        l.minute as i64,
+        l.second as i64,
+        0,
+        0,
+        0,
+    ]
+}
+
+fn ticked(a: TickAnswer, next: Cursor) -> Said {
+    match a {
+        TickAnswer::Next(l) => said_numbers(Tail::Nothing, 7, label_numbers(l), next),
+        TickAnswer::Refused(why) => refused(Tail::Nothing, 7, why, next),
+    }
+}
+
+// start
+pub(crate) fn start(c: Cursor, t: Table) -> Said {
+    ticked(clock::start(t), c)
+}
+
+// tick Y MO D H MI S
+pub(crate) fn tick(line: &[u8], c: Cursor, t: Table) -> Said {
+    let l = label_field(line, c);
+    let value = l.value;
+    ticked(clock::tick(t, value), l.next)
+}
