@@ -14,8 +14,8 @@ use crate::tables::set_table;
 use crate::texts::read_text;
 use crate::texts::write_block;
 use crate::texts::write_text;
-use leap::Table;
 use fields::Cursor;
+use leap::Table;
 
 // Whether a word is a name without the blanks behind it.
 fn named(word: &[u8], name: [u8; 12]) -> bool {

@@ -4,10 +4,10 @@ use crate::said::Tail;
 use crate::said::refused;
 use crate::said::said_numbers;
 use crate::stamps::said_instant;
+use fields::Cursor;
 use julian::JulianAnswer;
 use julian::JulianDate;
 use leap::Table;
-use fields::Cursor;
 
 fn said_date(d: JulianDate, next: Cursor) -> Said {
     let mut s = said_numbers(Tail::Doubles, 1, [0; 10], next);

@@ -1,7 +1,7 @@
 // What is answered, by value: numbers, and what stands behind them.
 use answer::Refusal;
-use julian::JulianDate;
 use fields::Cursor;
+use julian::JulianDate;
 
 pub enum Tail {
     Nothing,

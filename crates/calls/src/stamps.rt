@@ -4,11 +4,11 @@ use crate::said::Tail;
 use crate::said::refused;
 use crate::said::said_numbers;
 use clock::TickAnswer;
-use leap::Table;
 use fields::Cursor;
-use stamp::InstantAnswer;
 use labels::Label;
 use labels::Reading;
+use leap::Table;
+use stamp::InstantAnswer;
 use stamp::Stamp;
 use stamp::StampAnswer;
 

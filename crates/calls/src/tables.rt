@@ -4,9 +4,9 @@ use crate::said::Tail;
 use crate::said::said_numbers;
 use crate::said::said_tail;
 use crate::said::whole;
-use leap::TableAnswer;
-use leap::Table;
 use fields::Cursor;
+use leap::Table;
+use leap::TableAnswer;
 
 // What is answered, and the table that the next call uses.
 pub struct Answered {

@@ -6,8 +6,8 @@ use crate::said::said_numbers;
 use crate::said::whole;
 use crate::stamps::stamp_numbers;
 use answer::Written;
-use leap::Table;
 use fields::Cursor;
+use leap::Table;
 use text::TextAnswer;
 
 fn text_said(a: TextAnswer, next: Cursor) -> Said {

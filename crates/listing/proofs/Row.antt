@@ -6,9 +6,11 @@ use mathlib.Core.List.{List, [], _∷_, _++_, append-assoc, append-nil}
 use Prim.Native.Nat.{ℕ, suc, _+_, _*_, _/_, _≤_}
 use native.Mathlib.Omega.{arith}
 use borrow.Author.Tests.{le-leb}
-use lib.IntN.{ℤ, pos, negsuc, _+ℤ_, _-ℤ_, _*ℤ_, +ℤ-idr}
+use lib.IntN.{ℤ, pos, negsuc, _+ℤ_, _-ℤ_, _*ℤ_}
 use lib.ListN.{length, drop, length-append, drop-of-length-le}
 use lib.Signed.{quotZ}
+use Rattle.laws.proofs.Difference.{sum-is, diff-is, eq-from}
+use Rattle.laws.proofs.Machine.{times-is}
 use Rattle.answer.specs.declared.Refusal.{Refusal}
 use Rattle.answer.proofs.Orders.{none-refused}
 use Rattle.leap.specs.declared.Table.{Table}
@@ -18,10 +20,10 @@ use Rattle.labels.specs.declared.Label.{Label}
 use Rattle.labels.specs.declared.Reading.{Reading}
 use Rattle.stamp.specs.declared.InstantAnswer.the-variants.{At, Refused}
 use Rattle.labels.specs.Labels.{labelTests, monthOf, whole}
-use Rattle.labels.specs.Seconds.{secondOf}
-use Rattle.stamp.specs.Instants.{instantAt}
+use Rattle.labels.specs.Seconds.{microOf, secondOf}
 use Rattle.stamp.specs.Stamps.{instantFor, instantOf}
 use Rattle.stamp.specs.Promise.{stamp}
+use Rattle.stamp.proofs.Scales.{instant-is}
 use Rattle.stamp.proofs.Undone.{stamp-back, stamp-given}
 use Rattle.clock.specs.Promise.{admits}
 use Rattle.pictures.specs.Pictures.{pictureText}
@@ -57,11 +59,14 @@ module _ (t : Table) (l : Label) (good : accepted t ≡ true) (there : admits t 
 
   module _ {x : ℤ} (e : instantOf t 0 (whole l) ≡ At x) where
     pub tai-is : quotZ x (pos 1000000) ≡ taiSecond t l
-    unfolding instantAt taiSecond
+    unfolding taiSecond
     tai-is =
         let q : x ≡ instantFor t Utc (whole l) = cc has-instant in
-        let z = (pos (secondOf l) +ℤ offsetAt t (monthOf l)) -ℤ pos 63113947200 in
-        let w : instantFor t Utc (whole l) ≡ pos 1000000 *ℤ z = +ℤ-idr (pos 1000000 *ℤ z +ℤ pos 0) ∙ +ℤ-idr (pos 1000000 *ℤ z) in
+        let z : ℤ = (pos (secondOf l) +ℤ offsetAt t (monthOf l)) -ℤ pos 63113947200 in
+        let y : ℤ = pos (secondOf l) +ℤ offsetAt t (monthOf l) in
+        let w : instantFor t Utc (whole l) ≡ pos 1000000 *ℤ z =
+        eq-from (instantFor t Utc (whole l)) (pos 1000000 *ℤ z)
+        (omega (arith, instant-is Utc (microOf (whole l)) (offsetAt t (monthOf l)), times-is 1000000 z, diff-is y (pos 63113947200), sum-is (pos (secondOf l)) (offsetAt t (monthOf l)))) in
         ap (λ y. quotZ y (pos 1000000)) (q ∙ w) ∙ millions z
 
     -- the picture written to a buffer of its size

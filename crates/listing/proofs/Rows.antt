@@ -1,7 +1,7 @@
 -- The lines of a listing, one behind another: what is stored and what is still to come are the whole.
 -- Assumes nothing.
-use mathlib.Core.Path.{_≡_, refl, sym, subst, _∙_}
-use mathlib.Core.Logic.{inl, inr}
+use mathlib.Core.Path.{_≡_, refl, sym, ap, subst, _∙_}
+use mathlib.Core.Logic.{_⊎_, inl, inr}
 use mathlib.Core.Bool.{true}
 use mathlib.Core.List.{List, [], _++_, append-assoc, append-nil}
 use Prim.Native.Nat.{ℕ, suc, _+_, _-_, _*_, _≤_, _<_}
@@ -13,17 +13,21 @@ use Rattle.leap.specs.declared.Table.{Table}
 use Rattle.leap.specs.Leap.{accepted}
 use Rattle.labels.specs.declared.Label.{Label}
 use Rattle.clock.specs.declared.TickAnswer.the-variants.{Next, Refused as Ended}
-use Rattle.clock.specs.Clock.{tick}
-use Rattle.clock.specs.Promise.{admits, Ticks}
-use Rattle.clock.proofs.Run.{all-run}
+use Rattle.clock.specs.Clock.{tick, tickResults}
+use Rattle.clock.specs.Promise.{last, admits, Follows, ended}
+use Rattle.clock.proofs.Run.{all-tick}
 use Rattle.digits.specs.Bytes.{Placed}
 use Rattle.digits.proofs.Bytes.{is-placed, then-placed}
 use Rattle.listing.specs.Listing.{rowText, onward, rows}
 
 -- what a tick of an admitted label gives is admitted
-stays : (t : Table) (l l′ : Label) → Ticks t l → tick t l ≡ Next l′ → admits t l′ ≡ true
-stays t l l′ (inl w) e = let q : w .0 ≡ l′ = cc (w .1 .0) in subst (λ x. admits t x ≡ true) q (w .1 .1 .is-admitted)
-stays t l l′ (inr w) e = let z : _≡_ {A = ℕ} 0 1 = cc (w .1) in absurd (omega arith)
+stays : (t : Table) (l l′ : Label) → ((k : Label) × ((tickResults (tick t l) ≡ (0, k)) × Follows t l k)) ⊎ ((l ≡ last) × (tickResults (tick t l) ≡ ended)) → tick t l ≡ Next l′ → admits t l′ ≡ true
+stays t l l′ (inl w) e =
+    let q : w .0 ≡ l′ = ap (λ v. v .1) (sym (w .1 .0) ∙ ap tickResults e) in
+    subst (λ x. admits t x ≡ true) q (w .1 .1 .is-admitted)
+stays t l l′ (inr w) e =
+    let z : _≡_ {A = ℕ} 7 0 = ap (λ v. v .0) (sym (w .1) ∙ ap tickResults e) in
+    absurd (omega arith)
 
 module _ (t : Table) (first : Label) (count from : ℕ) (start : List ℕ) where
   pub record Rowed (out : List ℕ) (l : Label) (at left : ℕ) : Type 0 where
@@ -73,7 +77,7 @@ module _ (t : Table) (first : Label) (count from : ℕ) (start : List ℕ) where
             whole = rw e at whole-is;
             room = omega (arith, r .room);
             good = r .good;
-            there = stays t l next (all-run t (r .good) .ticks l (r .there)) e;
+            there = stays t l next (all-tick t (r .good) .ticks-to-the-next l (r .there)) e;
           }
 
       -- the clock ends

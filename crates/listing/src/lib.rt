@@ -17,14 +17,14 @@ ghost use Rattle.digits.specs.Bytes.{Placed};
 ghost use Rattle.listing.specs.Listing.{lineOf, blockLine, stampLine, countLine, refusalText, header, rowText, rows, fromCount, fromStamp, fromBlock, listed};
 use answer::Refusal;
 use answer::Written;
-use leap::TableAnswer;
-use leap::TableRead;
 use clock::TickAnswer;
 use digits::Number;
-use leap::Table;
-use stamp::InstantAnswer;
 use labels::Label;
 use labels::Reading;
+use leap::Table;
+use leap::TableAnswer;
+use leap::TableRead;
+use stamp::InstantAnswer;
 use text::TextAnswer;
 
 // The header's 8 bytes and at most 42 for each of 3,600 lines.

@@ -11,21 +11,21 @@ ghost use Rattle.stamp.specs.Stamps.{instantOf, instantResults, stampOf};
 ghost use Rattle.clock.specs.Clock.{start, tick};
 ghost use Rattle.block.specs.Reading.{readBlock};
 ghost use Rattle.text.specs.Text.{readText, writeText, writeTextAfter};
-ghost use Rattle.julian.specs.Dates.{julianAnswer, dateAnswer};
+ghost use Rattle.julian.specs.Dates.{writeJulian, readJulian};
 ghost use Rattle.mundreff.specs.Words.{offsetFrom, offsetWord, wordsAt, tableFrom, tableWords};
 ghost use Rattle.mundreff.specs.Answers.{tableNumbers, stampFields, stampNumbers, textNumbers, labelNumbers, pairNumbers};
 ghost use Rattle.block.specs.Blocks.{writeBlock, writeBlockAfter};
 ghost use Rattle.mundreff.specs.Calls.{labelFrom, scaleFrom, readingFrom, pair};
 use answer::Written;
-use leap::TableAnswer;
-use leap::TableRead;
 use clock::TickAnswer;
 use julian::JulianAnswer;
 use julian::JulianDate;
-use leap::Table;
-use stamp::InstantAnswer;
 use labels::Label;
 use labels::Reading;
+use leap::Table;
+use leap::TableAnswer;
+use leap::TableRead;
+use stamp::InstantAnswer;
 use stamp::Scale;
 use stamp::Stamp;
 use stamp::StampAnswer;
@@ -397,7 +397,7 @@ pub extern "C" fn mundreff_write_julian<'a>(
     midnight: &'a mut f64,
     fraction: &'a mut f64,
 ) -> u32
-    ensures { λ r. ⌜ (r, now (midnight .exit), now (fraction .exit)) ≡ pairNumbers (julianAnswer (tableFrom (now (table .entry))) instant scale) ⌝ }
+    ensures { λ r. ⌜ (r, now (midnight .exit), now (fraction .exit)) ≡ pairNumbers (writeJulian (tableFrom (now (table .entry))) instant scale) ⌝ }
 {
     let a = julian::write_julian(table_of(table), instant, scale);
     give_pair(a, midnight, fraction)
@@ -411,7 +411,7 @@ pub extern "C" fn mundreff_read_julian(
     fraction: f64,
     instant: &mut i64,
 ) -> u32
-    ensures { λ r. ⌜ (r, now (instant .exit)) ≡ instantResults (dateAnswer (tableFrom (now (table .entry))) scale (pair midnight fraction)) ⌝ }
+    ensures { λ r. ⌜ (r, now (instant .exit)) ≡ instantResults (readJulian (tableFrom (now (table .entry))) scale (pair midnight fraction)) ⌝ }
 {
     let date = JulianDate { midnight, fraction };
     let a = julian::read_julian(table_of(table), scale, date);

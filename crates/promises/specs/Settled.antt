@@ -25,7 +25,7 @@ use Rattle.text.specs.declared.TextAnswer.{TextAnswer}
 use Rattle.text.specs.Text.{readText, writeText, writeTextAfter}
 use Rattle.julian.specs.declared.JulianAnswer.{JulianAnswer}
 use Rattle.julian.specs.declared.JulianDate.{JulianDate}
-use Rattle.julian.specs.Dates.{julianAnswer, dateAnswer}
+use Rattle.julian.specs.Dates.{writeJulian, readJulian}
 use Rattle.mundreff.specs.Words.{tableFrom, tableWords}
 use Rattle.mundreff.specs.Answers.{tableNumbers, stampNumbers, textNumbers, labelNumbers, pairNumbers}
 use Rattle.block.specs.Blocks.{writeBlock, writeBlockAfter}
@@ -50,8 +50,8 @@ pub record Settled : Type 0 where
   pub stamp-of : (t : Table) (instant : ℤ) (scale : ℕ) → AtMostOne (λ (a : StampAnswer). a ≡ stampOf t instant scale)
   pub read-text : (t : Table) (scale : ℕ) (text : List ℕ) → AtMostOne (λ (a : TextAnswer). a ≡ readText t scale text)
   pub write-text : (t : Table) (instant : ℤ) (picture scale digits : ℕ) (buffer : List ℕ) → AtMostOne (λ (r : Wrote). (r .0 ≡ writeText t instant picture scale digits buffer) × (r .1 ≡ writeTextAfter t instant picture scale digits buffer))
-  pub write-julian : (t : Table) (instant : ℤ) (scale : ℕ) → AtMostOne (λ (a : JulianAnswer). a ≡ julianAnswer t instant scale)
-  pub read-julian : (t : Table) (scale : ℕ) (date : JulianDate) → AtMostOne (λ (a : InstantAnswer). a ≡ dateAnswer t scale date)
+  pub write-julian : (t : Table) (instant : ℤ) (scale : ℕ) → AtMostOne (λ (a : JulianAnswer). a ≡ writeJulian t instant scale)
+  pub read-julian : (t : Table) (scale : ℕ) (date : JulianDate) → AtMostOne (λ (a : InstantAnswer). a ≡ readJulian t scale date)
   pub start : (t : Table) → AtMostOne (λ (a : TickAnswer). a ≡ start t)
   pub tick : (t : Table) (l : Label) → AtMostOne (λ (a : TickAnswer). a ≡ tick t l)
   pub bulletin-c : AtMostOne (λ (t : Table). t ≡ bulletinC)
@@ -65,7 +65,7 @@ pub record SettledInC : Type 0 where
   pub stamp-of : (table : List ℕ) (instant : ℤ) (scale : ℕ) → AtMostOne (λ (r : ℕ × List ℕ). r ≡ stampNumbers (stampOf (tableFrom table) instant scale))
   pub read-text : (table : List ℕ) (scale : ℕ) (text : List ℕ) → AtMostOne (λ (r : ℕ × ℤ × List ℕ). r ≡ textNumbers (readText (tableFrom table) scale text))
   pub write-text : (table : List ℕ) (instant : ℤ) (picture scale digits : ℕ) (buffer : List ℕ) → AtMostOne (λ (r : WroteInC). (r .0 ≡ writtenResults (writeText (tableFrom table) instant picture scale digits buffer)) × (r .1 ≡ writeTextAfter (tableFrom table) instant picture scale digits buffer))
-  pub write-julian : (table : List ℕ) (instant : ℤ) (scale : ℕ) → AtMostOne (λ (r : ℕ × Float × Float). r ≡ pairNumbers (julianAnswer (tableFrom table) instant scale))
-  pub read-julian : (table : List ℕ) (scale : ℕ) (midnight fraction : Float) → AtMostOne (λ (r : ℕ × ℤ). r ≡ instantResults (dateAnswer (tableFrom table) scale (pair midnight fraction)))
+  pub write-julian : (table : List ℕ) (instant : ℤ) (scale : ℕ) → AtMostOne (λ (r : ℕ × Float × Float). r ≡ pairNumbers (writeJulian (tableFrom table) instant scale))
+  pub read-julian : (table : List ℕ) (scale : ℕ) (midnight fraction : Float) → AtMostOne (λ (r : ℕ × ℤ). r ≡ instantResults (readJulian (tableFrom table) scale (pair midnight fraction)))
   pub start : (table : List ℕ) → AtMostOne (λ (r : ℕ × List ℕ). r ≡ labelNumbers (start (tableFrom table)))
   pub tick-in-place : (table label : List ℕ) → AtMostOne (λ (r : ℕ × List ℕ). r ≡ labelNumbers (tick (tableFrom table) (labelFrom 0 label)))

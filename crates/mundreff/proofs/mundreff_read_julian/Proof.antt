@@ -3,7 +3,7 @@
 use mathlib.Core.Path.{ap, _∙_}
 use Rattle.leap.specs.declared.Table.{Table}
 use borrow.Author.Needs.{needs}
-use Rattle.julian.specs.Dates.{dateAnswer}
+use Rattle.julian.specs.Dates.{readJulian}
 use Rattle.stamp.specs.Stamps.{instantResults}
 use Rattle.mundreff.specs.Calls.{pair}
 use Rattle.mundreff.proofs.Results.{said}
@@ -22,4 +22,4 @@ mundreff-read-julian-spec =
     let a = t .before .args in
     said instantResults (c .give-instant .ensures)
     (c .before .before .read-julian .ensures
-    ∙ ap (λ (u : Table). dateAnswer u (a .scale) (pair (a .midnight) (a .fraction))) (t .table-of .ensures))))
+    ∙ ap (λ (u : Table). readJulian u (a .scale) (pair (a .midnight) (a .fraction))) (t .table-of .ensures))))

@@ -5,7 +5,7 @@ use lib.IntN.{ℤ}
 use mir.Facts.{toZ-ofZ}
 use Rattle.leap.specs.declared.Table.{Table}
 use borrow.Author.Needs.{needs}
-use Rattle.julian.specs.Dates.{julianAnswer}
+use Rattle.julian.specs.Dates.{writeJulian}
 use Rattle.mundreff.specs.Answers.{pairNumbers}
 use Rattle.mundreff.proofs.Results.{said}
 use Rattle.mundreff.proofs.mundreff_write_julian.Statement.{statement}
@@ -24,4 +24,4 @@ mundreff-write-julian-spec =
     let a = t .before .args in
     said pairNumbers (c .give-pair .ensures)
     (d .write-julian .ensures
-    ∙ ap₂ (λ (u : Table) (x : ℤ). julianAnswer u x (a .scale)) (t .table-of .ensures) (toZ-ofZ (t .before .fits .instant)))))
+    ∙ ap₂ (λ (u : Table) (x : ℤ). writeJulian u x (a .scale)) (t .table-of .ensures) (toZ-ofZ (t .before .fits .instant)))))
