@@ -112,6 +112,14 @@ fn places_of(months: &[u32; 64], offsets: &[i32; 64]) -> Places {
     Places { used, pairs }
 }
 
+// How many numbers so many pairs have.
+fn twice(pairs: usize) -> usize {
+    if pairs < 65 {
+        return 2 * pairs;
+    }
+    0
+}
+
 // The refusal, the place, the count and how many pairs there are.
 fn block_numbers(a: TableAnswer, count: i64, used: i64) -> [i64; 10] {
     match a {
@@ -131,7 +139,7 @@ fn said_table(a: TableAnswer, t: Table, next: Cursor) -> Said {
     let pairs = p.pairs;
     let numbers = block_numbers(a, whole(t.count), whole(used));
     let mut s = said_numbers(Tail::Pairs, 4, numbers, next);
-    s.size = used;
+    s.size = twice(used);
     s.pairs = pairs;
     s
 }
