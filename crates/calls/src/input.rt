@@ -22,7 +22,7 @@ fn answer_held(line: &[u8], len: usize, t: Table, out: &mut [u8], used: usize) -
     let end = tell(said, out, used);
     State {
         len: 0,
-        used: lines::append(out, end, b"\n"),
+        used: digits::append(out, end, b"\n"),
         table,
     }
 }
@@ -36,7 +36,7 @@ fn answer_line(line: &[u8], s: State, out: &mut [u8]) -> State {
     }
     State {
         len: 0,
-        used: lines::append(out, used, b"?\n"),
+        used: digits::append(out, used, b"?\n"),
         table,
     }
 }

@@ -50,11 +50,7 @@ fn table_field(line: &[u8], c: Cursor) -> TableField {
     let mut months = [0u32; 64];
     let mut offsets = [0i32; 64];
     let next = take_pairs(line, k.next, k.value as usize, &mut months, &mut offsets);
-    let table = Table {
-        count: count.value as usize,
-        months,
-        offsets,
-    };
+    let table = leap::tabled(count.value as usize, &months, &offsets);
     TableField { table, next }
 }
 

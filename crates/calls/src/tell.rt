@@ -3,20 +3,20 @@ use crate::said::Said;
 use crate::said::Tail;
 
 fn blank(out: &mut [u8], at: usize) -> usize {
-    lines::append(out, at, b" ")
+    digits::append(out, at, b" ")
 }
 
 // A blank and a number.
 fn number(out: &mut [u8], at: usize, z: i64) -> usize {
     let next = blank(out, at);
-    lines::append_signed(out, next, z)
+    digits::append_signed(out, next, z)
 }
 
 fn double(out: &mut [u8], at: usize, x: f64) -> usize {
     let next = blank(out, at);
     let mut text = [0u8; 16];
-    let k = io::hex(lines::pattern(x), 16, &mut text);
-    lines::append(out, next, &text[..k])
+    let k = io::hex(fields::pattern(x), 16, &mut text);
+    digits::append(out, next, &text[..k])
 }
 
 // The numbers from index `from` up to `to`, each after a blank.
@@ -48,7 +48,7 @@ fn tell_numbers(all: [i64; 10], from: usize, to: usize, out: &mut [u8], at: usiz
         return at;
     }
     let first = all[from];
-    let next = lines::append_signed(out, at, first);
+    let next = digits::append_signed(out, at, first);
     numbers(out, next, &all, from + 1, to)
 }
 
@@ -72,8 +72,8 @@ fn tell_tail(s: Said, out: &mut [u8], at: usize) -> usize {
     let tail = s.tail;
     match tail {
         Tail::Nothing => at,
-        Tail::Bad => lines::append(out, at, b"?"),
-        Tail::Ok => lines::append(out, at, b"ok"),
+        Tail::Bad => digits::append(out, at, b"?"),
+        Tail::Ok => digits::append(out, at, b"ok"),
         Tail::Bytes => tell_bytes(s, out, at),
         Tail::Doubles => tell_doubles(s, out, at),
         Tail::Pairs => tell_pairs(s, out, at),
