@@ -1,4 +1,3 @@
-pub mod Said
 pub mod Answers
 pub mod Settled
 pub mod Refused
