@@ -25,7 +25,7 @@ use Rattle.pictures.specs.declared.FieldsAnswer.{FieldsAnswer}
 use Rattle.pictures.specs.declared.FieldsAnswer.the-variants.{Shows, NoPicture}
 use Rattle.pictures.specs.Reading.{readFields}
 use Rattle.text.specs.declared.TextAnswer.the-variants.{Read, Refused as NotRead}
-use Rattle.text.specs.Text.{readingOf, readAnswer, fieldsRead, readText}
+use Rattle.text.specs.Text.{readingOf, fieldsRead, readText}
 use Rattle.digits.specs.declared.Number.{Number}
 use Rattle.digits.specs.declared.Number.the-variants.{Is, Bad}
 use Rattle.digits.specs.Decimals.{Within, decimalOf}
