@@ -69,9 +69,17 @@ fn read_groups(s: &[u8], at: usize, left: usize) -> NumberAnswer
     }
 }
 
+// Most numbers have one group: it is looked at first.
 fn read_number(s: &[u8], at: usize) -> NumberAnswer
     ensures { λ r. ⌜ r ≡ readNumber (drop at (now (s .entry))) ⌝ }
 {
+    if s.len() <= at {
+        return NumberAnswer::Cut;
+    }
+    let byte = s[at];
+    if is_last(byte) {
+        return NumberAnswer::Number(group(byte), 1);
+    }
     read_groups(s, at, 3)
 }
 

@@ -32,17 +32,17 @@ fn call(word: &[u8], line: &[u8], c: Cursor, t: Table) -> Said {
     if named(word, *b"write_block ") {
         return write_block(line, c, t);
     }
-    if named(word, *b"instant_of  ") {
-        return instant_of(line, c, t);
-    }
-    if named(word, *b"stamp_of    ") {
-        return stamp_of(line, c, t);
-    }
     if named(word, *b"read_text   ") {
         return read_text(line, c, t);
     }
     if named(word, *b"write_text  ") {
         return write_text(line, c, t);
+    }
+    if named(word, *b"instant_of  ") {
+        return instant_of(line, c, t);
+    }
+    if named(word, *b"stamp_of    ") {
+        return stamp_of(line, c, t);
     }
     if named(word, *b"read_julian ") {
         return read_julian(line, c, t);

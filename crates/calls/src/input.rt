@@ -1,53 +1,10 @@
-// Standard input in chunks, cut into lines of at most 2,048 bytes.
-ghost use Prim.Native.Nat.{_≤_, _<_};
-ghost use lib.ListN.{length};
+// Standard input in chunks, whose lines are answered.
 use crate::answers::answer;
+use crate::cut::take_line;
 use crate::tell::tell;
 use leap::Table;
 use libc::STDIN_FILENO;
 use libc::STDOUT_FILENO;
-
-// How far a chunk is read, how many bytes of the line are held (the largest number for an over-long one), and whether the line ended.
-pub struct Cut {
-    pub at: usize,
-    pub len: usize,
-    pub ended: bool,
-}
-
-// Holds one byte more of the line, unless it is full: then the largest number stands for an over-long line.
-fn hold(line: &mut [u8], len: usize, b: u8) -> usize {
-    if len < line.len() {
-        line[len] = b;
-        return len + 1;
-    }
-    usize::MAX
-}
-
-// Moves bytes of the chunk to the line, up to a line end.
-fn take_line(chunk: &[u8], from: usize, line: &mut [u8], held: usize) -> Cut
-    requires { ⌜ from < length (now chunk) ⌝ }
-    ensures { λ r. ⌜ (from < r .at) × (r .at ≤ length (now (chunk .entry))) ⌝ }
-{
-    let mut len = held;
-    let mut i = from;
-    while i < chunk.len() {
-        let b = chunk[i];
-        i += 1;
-        if b == 10 {
-            return Cut {
-                at: i,
-                len,
-                ended: true,
-            };
-        }
-        len = hold(line, len, b);
-    }
-    Cut {
-        at: i,
-        len,
-        ended: false,
-    }
-}
 
 // The state between two lines.
 pub struct State {
@@ -56,27 +13,30 @@ pub struct State {
     pub table: Table,
 }
 
-// Answers a line that is held whole, or says `?` of an over-long one.
-fn answer_line(line: &[u8], s: State, out: &mut [u8]) -> State {
-    let table = s.table;
-    let n = s.len;
-    let used = room(out, s.used);
-    if n <= line.len() {
-        let k = lines::front(line, n);
-        let a = answer(&line[..k], table);
-        let said = a.said;
-        let next = a.table;
-        let end = tell(said, out, used);
-        return State {
-            len: 0,
-            used: digits::append(out, end, b"\n"),
-            table: next,
-        };
-    }
-    let end = digits::append(out, used, b"?\n");
+// Answers a line that is held whole.
+fn answer_held(line: &[u8], len: usize, t: Table, out: &mut [u8], used: usize) -> State {
+    let k = lines::front(line, len);
+    let a = answer(&line[..k], t);
+    let said = a.said;
+    let table = a.table;
+    let end = tell(said, out, used);
     State {
         len: 0,
-        used: end,
+        used: digits::append(out, end, b"\n"),
+        table,
+    }
+}
+
+// Answers a line, or says `?` of an over-long one.
+fn answer_line(line: &[u8], s: State, out: &mut [u8]) -> State {
+    let table = s.table;
+    let used = room(out, s.used);
+    if s.len <= line.len() {
+        return answer_held(line, s.len, table, out, used);
+    }
+    State {
+        len: 0,
+        used: digits::append(out, used, b"?\n"),
         table,
     }
 }

@@ -17,10 +17,11 @@ pub enum Tail {
     Pairs,
 }
 
-// The first `count` numbers, then a tail. `next` is the cursor after the words that were read.
+// The numbers from index `from` up to `to`, then a tail. `next` is the cursor after the words that were read.
 pub struct Said {
     pub next: Cursor,
-    pub count: usize,
+    pub from: usize,
+    pub to: usize,
     pub numbers: [i64; 10],
     pub tail: Tail,
     pub size: usize,
@@ -29,14 +30,15 @@ pub struct Said {
     pub pairs: [i64; 128],
 }
 
-pub(crate) fn said_numbers(tail: Tail, count: usize, numbers: [i64; 10], next: Cursor) -> Said {
+pub(crate) fn said_numbers(tail: Tail, to: usize, numbers: [i64; 10], next: Cursor) -> Said {
     let date = JulianDate {
         midnight: 0.0,
         fraction: 0.0,
     };
     Said {
         next,
-        count,
+        from: 0,
+        to,
         numbers,
         tail,
         size: 0,
@@ -47,9 +49,9 @@ pub(crate) fn said_numbers(tail: Tail, count: usize, numbers: [i64; 10], next: C
 }
 
 // The number of a refusal and zeros: as many numbers as an answer has.
-pub(crate) fn refused(tail: Tail, count: usize, why: Refusal, next: Cursor) -> Said {
+pub(crate) fn refused(tail: Tail, to: usize, why: Refusal, next: Cursor) -> Said {
     let n = answer::number_of(why) as i64;
-    said_numbers(tail, count, [n, 0, 0, 0, 0, 0, 0, 0, 0, 0], next)
+    said_numbers(tail, to, [n, 0, 0, 0, 0, 0, 0, 0, 0, 0], next)
 }
 
 // No numbers, and a tail.

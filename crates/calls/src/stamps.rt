@@ -61,7 +61,7 @@ pub(crate) fn instant_of(line: &[u8], c: Cursor, t: Table) -> Said {
     said_instant(stamp::instant_of(t, scale.value, r), micro.next)
 }
 
-// Two numbers in front and those of a stamp.
+// 0, a number, and those of a stamp.
 pub(crate) fn stamp_numbers(first: i64, z: Stamp) -> [i64; 10] {
     let s = z.scale;
     let n = s.number() as i64;
@@ -81,19 +81,16 @@ pub(crate) fn stamp_numbers(first: i64, z: Stamp) -> [i64; 10] {
     ]
 }
 
-// The numbers but the second, which a stamp alone has no use for.
-fn without_second(a: [i64; 10]) -> [i64; 10] {
-    [a[0], a[2], a[3], a[4], a[5], a[6], a[7], a[8], a[9], 0]
+// The numbers from the second on: it is the 0 of no refusal.
+fn said_stamp(z: Stamp, next: Cursor) -> Said {
+    let mut s = said_numbers(Tail::Nothing, 10, stamp_numbers(0, z), next);
+    s.from = 1;
+    s
 }
 
 fn stamped(a: StampAnswer, next: Cursor) -> Said {
     match a {
-        StampAnswer::Stamped(z) => said_numbers(
-            Tail::Nothing,
-            9,
-            without_second(stamp_numbers(0, z)),
-            next,
-        ),
+        StampAnswer::Stamped(z) => said_stamp(z, next),
         StampAnswer::Refused(why) => refused(Tail::Nothing, 9, why, next),
     }
 }

@@ -50,11 +50,7 @@ fn table_field(line: &[u8], c: Cursor) -> TableField {
     let mut months = [0u32; 64];
     let mut offsets = [0i32; 64];
     let next = take_pairs(line, k.next, k.value as usize, &mut months, &mut offsets);
-    let table = Table {
-        count: count.value as usize,
-        months,
-        offsets,
-    };
+    let table = leap::tabled(count.value as usize, &months, &offsets);
     TableField { table, next }
 }
 
@@ -112,6 +108,14 @@ fn places_of(months: &[u32; 64], offsets: &[i32; 64]) -> Places {
     Places { used, pairs }
 }
 
+// How many numbers so many pairs have.
+fn twice(pairs: usize) -> usize {
+    if pairs < 65 {
+        return 2 * pairs;
+    }
+    0
+}
+
 // The refusal, the place, the count and how many pairs there are.
 fn block_numbers(a: TableAnswer, count: i64, used: i64) -> [i64; 10] {
     match a {
@@ -131,7 +135,7 @@ fn said_table(a: TableAnswer, t: Table, next: Cursor) -> Said {
     let pairs = p.pairs;
     let numbers = block_numbers(a, whole(t.count), whole(used));
     let mut s = said_numbers(Tail::Pairs, 4, numbers, next);
-    s.size = used;
+    s.size = twice(used);
     s.pairs = pairs;
     s
 }

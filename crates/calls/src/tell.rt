@@ -1,7 +1,6 @@
 // Answers to words.
 use crate::said::Said;
 use crate::said::Tail;
-use julian::JulianDate;
 
 fn blank(out: &mut [u8], at: usize) -> usize {
     digits::append(out, at, b" ")
@@ -18,11 +17,6 @@ fn double(out: &mut [u8], at: usize, x: f64) -> usize {
     let mut text = [0u8; 16];
     let k = io::hex(fields::pattern(x), 16, &mut text);
     digits::append(out, next, &text[..k])
-}
-
-fn doubles(out: &mut [u8], at: usize, d: JulianDate) -> usize {
-    let next = double(out, at, d.midnight);
-    double(out, next, d.fraction)
 }
 
 // The numbers from index `from` up to `to`, each after a blank.
@@ -46,44 +40,49 @@ fn bytes_in_hex(out: &mut [u8], at: usize, bytes: &[u8], size: usize) -> usize {
 }
 
 // No blank stands before the first number.
-fn tell_numbers(out: &mut [u8], at: usize, all: [i64; 10], count: usize) -> usize {
-    if count == 0 {
+fn tell_numbers(all: [i64; 10], from: usize, to: usize, out: &mut [u8], at: usize) -> usize {
+    if to <= from {
         return at;
     }
-    let first = all[0];
+    if 9 < from {
+        return at;
+    }
+    let first = all[from];
     let next = digits::append_signed(out, at, first);
-    numbers(out, next, &all, 1, count)
+    numbers(out, next, &all, from + 1, to)
 }
 
-fn tell_pairs(out: &mut [u8], at: usize, pairs: [i64; 128], size: usize) -> usize {
-    if 64 < size {
-        return at;
-    }
-    numbers(out, at, &pairs, 0, 2 * size)
+fn tell_bytes(s: Said, out: &mut [u8], at: usize) -> usize {
+    let bytes = s.bytes;
+    bytes_in_hex(out, at, &bytes, s.size)
 }
 
-fn tell_bytes(out: &mut [u8], at: usize, bytes: [u8; 256], size: usize) -> usize {
-    bytes_in_hex(out, at, &bytes, size)
+fn tell_doubles(s: Said, out: &mut [u8], at: usize) -> usize {
+    let d = s.date;
+    let next = double(out, at, d.midnight);
+    double(out, next, d.fraction)
+}
+
+fn tell_pairs(s: Said, out: &mut [u8], at: usize) -> usize {
+    let pairs = s.pairs;
+    numbers(out, at, &pairs, 0, s.size)
 }
 
 fn tell_tail(s: Said, out: &mut [u8], at: usize) -> usize {
     let tail = s.tail;
-    let bytes = s.bytes;
-    let pairs = s.pairs;
-    let date = s.date;
     match tail {
         Tail::Nothing => at,
         Tail::Bad => digits::append(out, at, b"?"),
         Tail::Ok => digits::append(out, at, b"ok"),
-        Tail::Bytes => tell_bytes(out, at, bytes, s.size),
-        Tail::Doubles => doubles(out, at, date),
-        Tail::Pairs => tell_pairs(out, at, pairs, s.size),
+        Tail::Bytes => tell_bytes(s, out, at),
+        Tail::Doubles => tell_doubles(s, out, at),
+        Tail::Pairs => tell_pairs(s, out, at),
     }
 }
 
 // Appends an answer, and gives where the next one goes.
 pub(crate) fn tell(s: Said, out: &mut [u8], at: usize) -> usize {
     let all = s.numbers;
-    let next = tell_numbers(out, at, all, s.count);
+    let next = tell_numbers(all, s.from, s.to, out, at);
     tell_tail(s, out, next)
 }

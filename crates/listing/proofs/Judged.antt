@@ -25,7 +25,7 @@ use Rattle.pictures.specs.declared.FieldsAnswer.{FieldsAnswer}
 use Rattle.pictures.specs.declared.FieldsAnswer.the-variants.{Shows, NoPicture}
 use Rattle.pictures.specs.Reading.{readFields}
 use Rattle.text.specs.declared.TextAnswer.the-variants.{Read, Refused as NotRead}
-use Rattle.text.specs.Text.{readingOf, readAnswer, fieldsRead, readText}
+use Rattle.text.specs.Text.{readingOf, fieldsRead, readText}
 use Rattle.digits.specs.declared.Number.{Number}
 use Rattle.digits.specs.declared.Number.the-variants.{Is, Bad}
 use Rattle.digits.specs.Decimals.{Within, decimalOf}
@@ -63,7 +63,7 @@ module _ (t : Table) (line : List ℕ) {x : ℤ} {z : Stamp} where
   not-refused why e = let z : _≡_ {A = ℕ} 0 1 = cc in omega arith
 
   -- fields that are accepted are those of an admitted label
-  fields-good : (a : FieldsAnswer) → fieldsRead t 0 a ≡ Read x z → admits t (z .reading .label) ≡ true
+  fields-good : (a : FieldsAnswer) → fieldsRead t Utc a ≡ Read x z → admits t (z .reading .label) ≡ true
   fields-good (Shows f) e =
       let r = readingOf f in
       let b = was-passed NotRead (labelTests (offsetAt t) 60 r) (Read (instantFor t Utc r) (stamp Utc r)) (Read x z) not-refused e in
@@ -74,7 +74,7 @@ module _ (t : Table) (line : List ℕ) {x : ℤ} {z : Stamp} where
   text-good : readText t 0 line ≡ Read x z → (accepted t ≡ true) × (admits t (z .reading .label) ≡ true)
   unfolding readText
   text-good e =
-      let a = was-passed NotRead ((true, ASK) ∷ (accepted t, TABLE) ∷ []) (fieldsRead t 0 (readFields line)) (Read x z) not-refused e in
+      let a = was-passed NotRead ((true, ASK) ∷ (accepted t, TABLE) ∷ []) (fieldsRead t Utc (readFields line)) (Read x z) not-refused e in
       (both (accepted t) true (a .0) .0, fields-good (readFields line) (a .1))
 
   pub stamp-good : stampLine t line ≡ Read x z → (accepted t ≡ true) × (admits t (z .reading .label) ≡ true)

@@ -69,17 +69,23 @@ fn nth_line(s: &[u8], k: usize) -> Line
     Line { from, end }
 }
 
+fn no_block() -> TableRead
+    ensures { λ r. ⌜ r ≡ refusedAt SHAPE 0 ⌝ }
+{
+    leap::refused_at(Refusal::Shape, 0)
+}
+
 // The first line: a block in hex.
 fn block_line(line: &[u8]) -> TableRead
     ensures { λ r. ⌜ r ≡ blockLine (now (line .entry)) ⌝ }
 {
     if 1024 < line.len() {
-        return leap::refused_at(Refusal::Shape, 0);
+        return no_block();
     }
     let mut bytes = [0u8; 512];
     let h = lines::hex(line, &mut bytes);
     let Number::Is(n) = h else {
-        return leap::refused_at(Refusal::Shape, 0);
+        return no_block();
     };
     let k = lines::front(&bytes, n as usize);
     block::read_block(&bytes[..k])

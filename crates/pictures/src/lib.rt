@@ -358,8 +358,8 @@ pub fn read_fields(text: &[u8]) -> FieldsAnswer
     if let FieldsAnswer::Shows(f) = read_numbered(text) {
         return FieldsAnswer::Shows(f);
     }
-    if let FieldsAnswer::Shows(f) = read_of_year(text) {
-        return FieldsAnswer::Shows(f);
+    if let FieldsAnswer::Shows(g) = read_of_year(text) {
+        return FieldsAnswer::Shows(g);
     }
     read_named(text)
 }

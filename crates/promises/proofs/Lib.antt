@@ -1,10 +1,9 @@
-pub mod Said
-pub mod Handed
+pub mod Answers
 pub mod Settled
-pub mod Refuses
+pub mod Refused
 pub mod Stamps
-pub mod Texts
+pub mod Text
 pub mod Blocks
-pub mod Ticks
-pub mod Pairs
-pub mod Desk
+pub mod Clock
+pub mod Julian
+pub mod Worked

@@ -31,8 +31,8 @@ use Rattle.stamp.specs.declared.Stamp.{Stamp}
 use Rattle.stamp.specs.declared.InstantAnswer.the-variants.{At, Refused as InstantRefused}
 use Rattle.stamp.specs.declared.StampAnswer.the-variants.{Stamped, Refused as StampRefused}
 use Rattle.labels.specs.Labels.{Offsets, monthOf, realYear, realMonth, realDay, realClock, hasSecond, labelTests, admitted}
-use Rattle.labels.specs.Seconds.{microOf, secondOf}
-use Rattle.stamp.specs.Scales.{scaleOf, fixed, offsetsOf, mostSecond}
+use Rattle.labels.specs.Seconds.{microOf}
+use Rattle.stamp.specs.Scales.{scaleOf, offsetsOf, mostSecond}
 use Rattle.stamp.specs.Stamps.{instantFor, instantOf, inRange, axisCount, stampAt, stampOf, stampResults}
 use Rattle.stamp.specs.Promise.{Reads, stamp}
 use Rattle.labels.proofs.Facts.{clock-to}

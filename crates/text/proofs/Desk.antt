@@ -22,6 +22,7 @@ use Rattle.pictures.specs.Pictures.{pictureText}
 use Rattle.pictures.specs.Reading.{like, readNumbered, readOfYear, readNamed, readFields}
 use Rattle.stamp.specs.declared.Stamp.{Stamp}
 use Rattle.labels.specs.Labels.{at, labelTests, lastMinute, minuteIn, realYear, realMonth, realDay, realClock, hasSecond}
+use Rattle.stamp.specs.declared.Scale.{Scale}
 use Rattle.stamp.specs.Scales.{scaleOf, scaleTests, offsetsOf, mostSecond, toInstant, toAxis}
 use Rattle.labels.specs.Seconds.{axisAt, inYears}
 use Rattle.labels.proofs.Uniform.{first-micro}
@@ -68,17 +69,17 @@ end-of-2016 =
     }))
 
 -- with the short way to an instant
-abbrev quickly : Table → ℕ → FieldsAnswer → TextAnswer
-quickly t k (Shows f) = let s = scaleOf k in let r = readingOf f in refusing Refused (labelTests (offsetsOf t s) (mostSecond s) r) (Read (quickInstant t s r) (stamp s r))
-quickly t k NoPicture = Refused SHAPE
+abbrev quickly : Table → Scale → FieldsAnswer → TextAnswer
+quickly t s (Shows f) = let r = readingOf f in refusing Refused (labelTests (offsetsOf t s) (mostSecond s) r) (Read (quickInstant t s r) (stamp s r))
+quickly t s NoPicture = Refused SHAPE
 
-quick-fields : (t : Table) (k : ℕ) (a : FieldsAnswer) → fieldsRead t k a ≡ quickly t k a
-quick-fields t k (Shows f) = rw (quick-instant t (scaleOf k) (readingOf f)) refl
-quick-fields t k NoPicture = refl
+quick-fields : (t : Table) (s : Scale) (a : FieldsAnswer) → fieldsRead t s a ≡ quickly t s a
+quick-fields t s (Shows f) = rw (quick-instant t s (readingOf f)) refl
+quick-fields t s NoPicture = refl
 
-quick : (t : Table) (k : ℕ) (text : List ℕ) → textResults (readText t k text) ≡ textResults (refusing Refused (scaleTests t k) (quickly t k (readFields text)))
+quick : (t : Table) (k : ℕ) (text : List ℕ) → textResults (readText t k text) ≡ textResults (refusing Refused (scaleTests t k) (quickly t (scaleOf k) (readFields text)))
 unfolding readText
-quick t k text = ap (λ (a : TextAnswer). textResults (refusing Refused (scaleTests t k) a)) (quick-fields t k (readFields text))
+quick t k text = ap (λ (a : TextAnswer). textResults (refusing Refused (scaleTests t k) a)) (quick-fields t (scaleOf k) (readFields text))
 
 pub worked : AllRight rows
 unfolding eqZ allBelow leapYear monthLength daysBefore oneApart placeRight accepted lastBegun offsetAt lastMinute minuteIn realYear realMonth realDay realClock hasSecond toInstant axisAt like readNumbered readOfYear readNamed digitValue spelled monthNamed amongMonths

@@ -117,7 +117,7 @@ module _ (t : Table) (k : ℕ) (text : List ℕ) where
       let s = n .shows in
       let w = well-formed o most r a (most-sixty (scaleOf k) .1) (s .picture) (s .digits) (s .a-picture) (s .a-number) (s .enough) in
       none-refused Refused (scaleTests t k) _ (join (le-leb k 3 (n .known)) (join (n .good) refl))
-      ∙ ap (fieldsRead t k) (ap readFields (s .text-is) ∙ back (fieldsOf (s .picture) (s .digits) r) w)
+      ∙ ap (fieldsRead t (scaleOf k)) (ap readFields (s .text-is) ∙ back (fieldsOf (s .picture) (s .digits) r) w)
       ∙ ap (readAnswer t (scaleOf k)) (reading-back o most r a (most-sixty (scaleOf k) .1) (s .picture) (s .digits) (s .a-picture))
       ∙ none-refused Refused (labelTests o most r) _ (n .reads .is-admitted)
       ∙ ap (λ (y : ℤ). Read y (stamp (scaleOf k) r)) (n .reads .instant-is)
@@ -158,10 +158,10 @@ module _ (t : Table) (k : ℕ) (text : List ℕ) where
   only : (x : ℤ) (z : Stamp) → readText t k text ≡ Read x z → (z .scale ≡ scaleOf k) × Names t k text x (z .reading)
   unfolding readText
   only x z e =
-      let p = was-passed Refused (scaleTests t k) (fieldsRead t k (readFields text)) (Read x z) (no-read x z) e in
+      let p = was-passed Refused (scaleTests t k) (fieldsRead t (scaleOf k) (readFields text)) (Read x z) (no-read x z) e in
       go (leb-true k 3 (and-l (leb k 3) _ (p .0))) (search (and-l, and-r)) (readFields text) refl (p .1)
     where
-      go : k ≤ 3 → accepted t ≡ true → (a : FieldsAnswer) → readFields text ≡ a → fieldsRead t k a ≡ Read x z → (z .scale ≡ scaleOf k) × Names t k text x (z .reading)
+      go : k ≤ 3 → accepted t ≡ true → (a : FieldsAnswer) → readFields text ≡ a → fieldsRead t (scaleOf k) a ≡ Read x z → (z .scale ≡ scaleOf k) × Names t k text x (z .reading)
       go known good (Shows f) q e = judged f x z known good (shown text f q) e
       go known good NoPicture q e = absurd (no-read x z SHAPE e)
 

@@ -1,6 +1,6 @@
 -- Facts that the contracts of private functions cite.
 -- Assumes nothing.
-use Prim.Native.Nat.{ℕ, _≤_}
+use Prim.Native.Nat.{_≤_}
 use Rattle.labels.specs.declared.Label.{Label}
 
 -- a label whose date is in the calendar's reach

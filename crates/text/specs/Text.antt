@@ -63,13 +63,13 @@ abbrev pub readAnswer : Table → Scale → Reading → TextAnswer
 readAnswer t s r = refusing Refused (labelTests (offsetsOf t s) (mostSecond s) r) (Read (instantFor t s r) (stamp s r))
 
 -- the fields of a text are judged; a text that has no picture is SHAPE
-abbrev pub fieldsRead : Table → ℕ → FieldsAnswer → TextAnswer
-fieldsRead t k (Shows f) = readAnswer t (scaleOf k) (readingOf f)
-fieldsRead t k NoPicture = Refused SHAPE
+abbrev pub fieldsRead : Table → Scale → FieldsAnswer → TextAnswer
+fieldsRead t s (Shows f) = readAnswer t s (readingOf f)
+fieldsRead t s NoPicture = Refused SHAPE
 
 -- `read_text`: what every call asks first, and then the text
 unfoldable pub readText : Table → ℕ → List ℕ → TextAnswer
-readText t k text = refusing Refused (scaleTests t k) (fieldsRead t k (readFields text))
+readText t k text = refusing Refused (scaleTests t k) (fieldsRead t (scaleOf k) (readFields text))
 
 -- an answer in the scope's numbers: that of the refusal, 0 on success, the instant and the stamp, all zero on a refusal
 abbrev pub textResults : TextAnswer → ℕ × ℤ × Stamp

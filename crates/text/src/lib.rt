@@ -2,8 +2,10 @@
 // `pictures` has the fields of a text and the text of fields; here they are judged, and taken from a stamp.
 ghost use mathlib.Core.Path.{_≡_};
 ghost use Rattle.calendar.specs.Dates.{dateInYear};
+ghost use Rattle.leap.specs.Leap.{tabled};
+ghost use Rattle.pictures.specs.Reading.{readFields};
 ghost use Rattle.text.specs.Parts.{Plain};
-ghost use Rattle.text.specs.Text.{dateOr, monthDayOf, readingOf, readText, dateAs, fieldsOf, writeText, writeTextAfter};
+ghost use Rattle.text.specs.Text.{dateOr, monthDayOf, readingOf, fieldsRead, readText, dateAs, fieldsOf, writeText, writeTextAfter};
 use answer::Refusal;
 use answer::Written;
 use calendar::MonthDay;
@@ -16,6 +18,7 @@ use pictures::Fields;
 use pictures::FieldsAnswer;
 use stamp::InstantAnswer;
 use stamp::Scale;
+use stamp::ScaleAnswer;
 use stamp::Stamp;
 use stamp::StampAnswer;
 
@@ -99,27 +102,36 @@ fn fields_of(picture: u32, digits: u32, r: Reading) -> Fields
 
 // ---- the calls
 
-pub fn read_text(t: Table, scale: u32, text: &[u8]) -> TextAnswer
-    ensures { λ r. ⌜ r ≡ readText t scale (now (text .entry)) ⌝ }
+// A text on a scale, or the first thing that is wrong with it: scale and table were asked for.
+fn read_on<'a>(
+    scale: Scale,
+    count: usize,
+    months: &'a [u32; 64],
+    offsets: &'a [i32; 64],
+    text: &[u8],
+) -> TextAnswer
+    ensures { λ r. ⌜ r ≡ fieldsRead (tabled count (now (months .entry)) (now (offsets .entry))) scale (readFields (now (text .entry))) ⌝ }
 {
-    if Scale::MOST < scale {
-        return TextAnswer::Refused(Refusal::Ask);
-    }
-    if !leap::is_accepted_in(t.count, &t.months, &t.offsets) {
-        return TextAnswer::Refused(Refusal::Table);
-    }
     let FieldsAnswer::Shows(f) = pictures::read_fields(text) else {
         return TextAnswer::Refused(Refusal::Shape);
     };
     let reading = reading_of(f);
-    let scale = Scale::numbered(scale);
-    let count = t.count;
-    match stamp::instant_in(scale, count, &t.months, &t.offsets, reading) {
+    match stamp::instant_in(scale, count, months, offsets, reading) {
         InstantAnswer::At(instant) => {
             let stamp = Stamp { scale, reading };
             TextAnswer::Read { instant, stamp }
         }
         InstantAnswer::Refused(why) => TextAnswer::Refused(why),
+    }
+}
+
+pub fn read_text(t: Table, scale: u32, text: &[u8]) -> TextAnswer
+    ensures { λ r. ⌜ r ≡ readText t scale (now (text .entry)) ⌝ }
+{
+    let count = t.count;
+    match stamp::asked(count, &t.months, &t.offsets, scale) {
+        ScaleAnswer::On(s) => read_on(s, count, &t.months, &t.offsets, text),
+        ScaleAnswer::Refused(why) => TextAnswer::Refused(why),
     }
 }
 

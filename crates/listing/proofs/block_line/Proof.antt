@@ -15,7 +15,7 @@ use Rattle.listing.proofs.block_line.Tie as tie
 
 returns : tie.Need-returns
 unfolding blockLine
-returns c = c .refused-at .ensures ∙ refused _ _ (lt-leb _ _ (c .before .if1 .taken))
+returns c = c .no-block .ensures ∙ refused _ _ (lt-leb _ _ (c .before .if1 .taken))
 
 returns-2 : tie.Need-returns-2
 unfolding blockLine
@@ -24,7 +24,7 @@ returns-2 c =
     let e = h .before .before in
     let s = e .before .before .args .line .now in
     let q = hex-bad s {room = 512} (omega arith) (sym (h .hex .ensures .0) ∙ c .before .enum-told .given .1) in
-    c .refused-at2 .ensures ∙ passed _ (le-leb _ _ (e .if1 .left)) (refused _ _ q)
+    c .no-block2 .ensures ∙ passed _ (le-leb _ _ (e .if1 .left)) (refused _ _ q)
 
 returns-3 : tie.Need-returns-3
 unfolding blockLine

@@ -1,5 +1,6 @@
 -- Count, months and offsets, each from its words.
 -- Assumes nothing.
+use mathlib.Core.Path.{_∙_}
 use borrow.Author.Needs.{needs}
 use Rattle.mundreff.specs.Words.{tableFrom}
 use Rattle.mundreff.proofs.Words.{same-table}
@@ -15,4 +16,6 @@ table-of-spec =
     (λ c κs. search needs)
     (λ c κs. search needs)
     (λ c κs. search needs)
-    (λ c. same-table (c .before .before .count-of .ensures) (c .before .months-of .ensures) (c .offsets-of .ensures)))
+    (λ c κs. search needs)
+    (λ c. let o = c .before .before .before in
+    c .tabled .ensures ∙ same-table (o .before .before .count-of .ensures) (o .before .months-of .ensures) (o .offsets-of .ensures)))

@@ -10,7 +10,7 @@ returns-2 : tie.Need-returns-2
 returns-2 c =
     let y = c .before .before .before in
     let n = y .before .before .before in
-    rw (sym (n .read-numbered .ensures) ∙ y .before .enum-told .given .1, sym (y .read-of-year .ensures) ∙ c .before .f2 .given .1)
+    rw (sym (n .read-numbered .ensures) ∙ y .before .enum-told .given .1, sym (y .read-of-year .ensures) ∙ c .before .g .given .1)
 
 returns-3 : tie.Need-returns-3
 returns-3 c =

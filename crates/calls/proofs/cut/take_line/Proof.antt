@@ -4,8 +4,8 @@ use Prim.Native.Nat.{_-_, _≤_, _<_}
 use mathlib.Core.Path.{_≡_}
 use borrow.Author.Needs.{needs}
 use lib.ListN.{length}
-use Rattle.calls.proofs.input.take_line.Statement.{statement}
-use Rattle.calls.proofs.input.take_line.Tie as tie
+use Rattle.calls.proofs.cut.take_line.Statement.{statement}
+use Rattle.calls.proofs.cut.take_line.Tie as tie
 
 abbrev Inv-loop : tie.InvT-loop
 Inv-loop chunk from line₀ held len₀ i₀ line len i = (from ≤ i) × (i ≤ length chunk) × (length line ≡ length line₀) × (from ≡ i → i < length chunk)

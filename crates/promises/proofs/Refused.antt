@@ -1,18 +1,23 @@
 -- A refusal writes nothing and gives nothing.
 -- Assumes nothing.
-use mathlib.Core.Path.{_≡_, ap, _∙_}
+use mathlib.Core.Path.{_≡_, refl, ap, _∙_}
 use mathlib.Core.Bool.{Bool}
 use mathlib.Core.List.{List}
 use Prim.Native.Nat.{ℕ}
 use lib.ListN.{length, take, drop}
 use Rattle.laws.proofs.Placed.{length-over, over-front, over-rest}
 use Rattle.answer.specs.declared.Refusal.{Refusal}
+use Rattle.answer.specs.declared.Written.{Written}
+use Rattle.answer.specs.declared.Written.the-variants.{Wrote, Refused as NotWritten}
 use Rattle.answer.specs.Buffers.{written, bufferAfter, writtenResults}
 use Rattle.answer.proofs.Writers.{wrote, refused-keeps, wrote-over}
 use Rattle.leap.proofs.Readers.{gives-no-table}
 use Rattle.block.specs.Reading.{inBlock}
 use Rattle.promises.specs.Refused.{Kept, Refuses}
-use Rattle.promises.proofs.Said.{not-wrote}
+
+not-wrote : (a : Written) → (writtenResults a .0 ≡ 0 → ⊥) → (why : Refusal) × (a ≡ NotWritten why)
+not-wrote (Wrote m) h = absurd (h refl)
+not-wrote (NotWritten why) h = (why, refl)
 
 kept : (tests : List (Bool × Refusal)) (bytes buffer : List ℕ) (n : ℕ) → writtenResults (written tests bytes buffer) ≡ (0, n) → Kept bytes buffer (bufferAfter tests bytes buffer) n
 kept tests bytes buffer n e =
