@@ -7,13 +7,15 @@ use Rattle.clock.specs.Clock.{tick}
 use Rattle.clock.proofs.tick.Statement.{statement}
 use Rattle.clock.proofs.tick.Tie as tie
 
-pub tick-spec : {M : Type 1} → statement M
+returns : tie.Need-returns
 unfolding tick
-tick-spec =
-    tie.close
-    (tie.spec
-    (λ c κs. search needs)
-    (λ c. refused _ _ (fails (c .before .is-accepted-in .ensures) (c .if1 .taken)))
-    (λ c κs. search needs)
-    (λ c. let e = c .before .before .before .before in
-    passed _ (holds (e .before .is-accepted-in .ensures) (e .if1 .left)) (c .tick-in .ensures)))
+returns c = refused _ _ (fails (c .before .is-accepted-in .ensures) (c .if1 .taken))
+
+returns-2 : tie.Need-returns-2
+unfolding tick
+returns-2 c =
+    let e = c .before .before .before .before in
+    passed _ (holds (e .before .is-accepted-in .ensures) (e .if1 .left)) (c .tick-in .ensures)
+
+pub tick-spec : {M : Type 1} → statement M
+tick-spec = tie.close (tie.spec (λ c κs. search needs) returns (λ c κs. search needs) returns-2)

@@ -35,6 +35,12 @@ module _ (c : tie.After-judge) where
   answered : {v : Judged} → c .judge .result ≡ v → onMonth Refused rest v ≡ tickIn table (s .args .l)
   answered e = then-judged 60 (whole (s .args .l)) Refused rest (told ∙ e)
 
+returns : tie.Need-returns
+returns c = let j = c .before .before .before .before in c .tick-judged .ensures ∙ answered j (c .before .before .month .given .1)
+
+returns-2 : tie.Need-returns-2
+returns-2 c = answered (c .before .before .before) (c .before .why .given .1)
+
 pub tick-in-spec : {M : Type 1} → statement M
 tick-in-spec =
     tie.close
@@ -43,5 +49,5 @@ tick-in-spec =
     (λ c. search needs)
     (λ c κs. let j = c .before .before .before in told j ∙ c .before .month .given .1)
     (λ c. search needs)
-    (λ c. let j = c .before .before .before .before in c .tick-judged .ensures ∙ answered j (c .before .before .month .given .1))
-    (λ c. answered (c .before .before .before) (c .before .why .given .1)))
+    returns
+    returns-2)

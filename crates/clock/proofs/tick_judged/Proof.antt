@@ -49,14 +49,18 @@ minute-is c =
     ∙ c .before .before .before .near-end .ensures
     ∙ ap₂ (λ (d m : ℕ). minuteIn d (o s m) (o s (m + 1)) l) (days-are s) (number-is s)
 
+returns : tie.Need-returns
+returns c =
+    let m = c .before .before in
+    refused _ _ (second-no (o (start m)) (start m .args .l) (minute-is m) (c .if1 .taken))
+
 pub tick-judged-spec : {M : Type 1} → statement M
 tick-judged-spec =
     tie.close
     (tie.spec
     (λ c κs. search needs)
     (λ c κs. search needs)
-    (λ c. let m = c .before .before in
-    refused _ _ (second-no (o (start m)) (start m .args .l) (minute-is m) (c .if1 .taken)))
+    returns
     (λ c κs. given (start (c .before .before)) .clock .second-most)
     (λ c. let e = c .before in
     let m = e .before .before in
