@@ -1,5 +1,5 @@
 /* Mundreff: stamps to instants and back, leap tables, Julian dates and the plain clock, for C99 and C++.
-   Link with target/staticlib/libmundreff.a (x86-64 Linux) and -lm; tools/build-archive makes it. It keeps no state and allocates nothing.
+   Link with target/staticlib/libmundreff.a (x86-64 Linux), which tools/build-archive makes. It keeps no state and allocates nothing.
 
    Every call returns the number of the refusal, MUNDREFF_OK (0) on success, and writes every output on every call: on a refusal they are
    all zero (mundreff_read_block also gives the place). A lent byte buffer is written on success only, and past the reported length never.
@@ -37,21 +37,25 @@ enum {
     MUNDREFF_NUMBER = 13   /* the midnight is not a whole number and a half, or the fraction is not at least 0 and below 1 */
 };
 
-/* The scales. All but UTC are uniform. */
+/* The scales. All but UTC are uniform: TDT (now TT) is TAI + 32.184 s, GPS is TAI - 19 s, also before 1980. Each scale has the labels from
+   1972-01-01 00:00:00 to the end of 9999 on its own clock, so near both ends an instant may have a label on one scale and RANGE on another. */
 enum { MUNDREFF_UTC = 0, MUNDREFF_TAI = 1, MUNDREFF_TDT = 2, MUNDREFF_GPS = 3 };
 
-/* The pictures of a text; a point and one to six digits may follow. */
+/* The pictures of a text; a point and one to six digits may follow. Exactly these widths, month names and T in upper case, no zone letter,
+   nothing before or after: anything else is SHAPE, a year of five digits too. */
 enum {
     MUNDREFF_MONTH_NUMBER = 0, /* 1987-04-12T16:31:12 */
     MUNDREFF_DAY_OF_YEAR = 1,  /* 1987-102T16:31:12 */
     MUNDREFF_MONTH_NAME = 2    /* 1986 APR 12 16:31:09 */
 };
 
-/* Bytes that are always enough: the longest text has 27, in picture 2 with six digits, and the longest block of a table 138. */
+/* Bytes that are always enough: the longest text has 27, in picture 2 with six digits, and the longest block of a table 138.
+   Add one to a text's for a final zero of your own. */
 enum { MUNDREFF_TEXT_ROOM = 27, MUNDREFF_BLOCK_ROOM = 138 };
 
 /* 1 to 64 entries, each the month (January 1972 is 0) from whose first day TAI-UTC is that offset in seconds. The first is month 0 with 10,
-   months rise, offsets go up or down by 1, unused places are zero. Every call checks it. */
+   months rise and end at 96,335 (December 9999) at the latest, offsets go up or down by 1, unused places are zero. Every call checks it.
+   The last offset holds to the end of 9999, announced or not. */
 typedef struct {
     uint32_t count;
     uint32_t months[64];
@@ -86,7 +90,11 @@ typedef struct {
    Never refused. */
 uint32_t mundreff_bulletin_c(mundreff_table *table);
 
-/* Reads a stored block into a table; on a refusal `place` is that of the first byte of the number at fault.
+/* Reads a stored block into a table. A block is the count of entries, then for each entry after the first twice the months since the entry
+   before it, plus 1 where the offset goes down. Each number is in groups of seven bits, lowest group first, a group to a byte, the top bit
+   set where more follow: at most three bytes, the shortest form. 03 0C 0C: three entries, two steps of six months, each up.
+   On a refusal `place` is that of the first byte of the number at fault, for TAIL of the first byte too many; where a number is missing
+   altogether it is `size`, so do not read block[place] unasked. On success it is 0.
    Refusals: CUT, GROUPS, TABLE and TAIL, whichever comes first from the left. */
 uint32_t mundreff_read_block(const uint8_t *block, size_t size, size_t *place, mundreff_table *table);
 
@@ -107,14 +115,18 @@ uint32_t mundreff_stamp_of(const mundreff_table *table, int64_t instant, uint32_
 uint32_t mundreff_read_text(const mundreff_table *table, uint32_t scale, const char *text, size_t size, int64_t *instant, mundreff_stamp *stamp);
 
 /* Writes an instant in a picture with 0 to 6 digits after the point, cut and never rounded up, with no final zero, and gives the length.
+   Note the order, picture and then scale: their numbers overlap, so a swap is not noticed.
    Refusals: ASK, TABLE, RANGE, ROOM. */
 uint32_t mundreff_write_text(const mundreff_table *table, int64_t instant, uint32_t picture, uint32_t scale, uint32_t digits, char *out, size_t room, size_t *length);
 
-/* The two-part Julian date of an instant: a midnight that ends in .5, and the fraction of a day of 86,400 seconds.
+/* The two-part Julian date of an instant: a midnight that ends in .5, and the fraction of a day of 86,400 seconds. On UTC an added second has
+   the pair of the second after it, so reading it back gives an instant one second later; every other instant comes back exactly.
    Refusals: ASK, TABLE, RANGE. */
 uint32_t mundreff_write_julian(const mundreff_table *table, int64_t instant, uint32_t scale, double *midnight, double *fraction);
 
-/* The instant of a two-part Julian date, to the nearest microsecond, a tie to the later.
+/* The instant of a two-part Julian date. The fraction is first rounded to a microsecond of a day of 86,400 seconds, a tie to the later, and
+   the result is judged after that: a fraction that rounds to a whole day is the next midnight, on UTC even where an added second lies
+   between; one that rounds into a taken-out second is NOSECOND, and past 9999 RANGE.
    Refusals: ASK, TABLE, NUMBER, RANGE, NOSECOND. */
 uint32_t mundreff_read_julian(const mundreff_table *table, uint32_t scale, double midnight, double fraction, int64_t *instant);
 
@@ -122,11 +134,11 @@ uint32_t mundreff_read_julian(const mundreff_table *table, uint32_t scale, doubl
    Refusals: TABLE. */
 uint32_t mundreff_start(const mundreff_table *table, mundreff_label *label);
 
-/* A label becomes the one a tick after it.
+/* A label becomes the one a tick after it; on a refusal it becomes all zero, like every output, so keep a copy where you need it.
    Refusals: TABLE, YEAR, DATE, CLOCK, NOSECOND, RANGE. */
 uint32_t mundreff_tick_in_place(const mundreff_table *table, mundreff_label *label);
 
-/* The label one tick after a label; `next` may be `label` itself.
+/* The label one tick after a label; `next` may be `label` itself. It is a copy and the call above.
    Refusals: as above. */
 static inline uint32_t mundreff_tick(const mundreff_table *table, const mundreff_label *label, mundreff_label *next)
 {
