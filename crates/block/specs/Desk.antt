@@ -25,17 +25,23 @@ pub data Row : Type 0 where
   -- a block is refused with this number at this place, and gives the all-zero table
   refuses : List ℕ → ℕ → ℕ → Row
 
+-- the proved set, marked P
 abbrev pub rows : List Row
 rows =
-    takes bulletinC 29
-    ∷ gives B bulletinC
-    ∷ gives (0x03 ∷ 0x0C ∷ 0x0C ∷ []) T
-    ∷ gives (0x02 ∷ 0x0D ∷ []) N
-    ∷ refuses (0x81 ∷ 0x00 ∷ []) 10 0
+    refuses (0x81 ∷ 0x00 ∷ []) 10 0
     ∷ refuses (0x01 ∷ 0x00 ∷ []) 12 1
     ∷ refuses (0x02 ∷ 0x01 ∷ []) 11 1
     ∷ refuses [] 9 0
     ∷ refuses (0x41 ∷ []) 11 0
+    ∷ []
+
+-- the blocks that the desk names
+abbrev pub named : List Row
+named =
+    takes bulletinC 29
+    ∷ gives B bulletinC
+    ∷ gives (0x03 ∷ 0x0C ∷ 0x0C ∷ []) T
+    ∷ gives (0x02 ∷ 0x0D ∷ []) N
     ∷ []
 
 -- the same for what the desk's rows do not show

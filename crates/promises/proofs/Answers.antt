@@ -8,6 +8,8 @@ use Rattle.answer.specs.declared.Refusal.{Refusal}
 use Rattle.answer.specs.declared.Refusal.the-variants.{Room, Shape, Year, Date, Clock, NoSecond, Range, Ask, Cut, Groups, Table, Tail, Number}
 use Rattle.answer.specs.Refusals.{number}
 use Rattle.answer.proofs.Orders.{number-some}
+use Rattle.mundreff.specs.Words.{tableWords}
+use Rattle.mundreff.proofs.Words.{undone}
 use Rattle.promises.specs.Answers.{Answers}
 
 -- the refusal of a number
@@ -34,9 +36,13 @@ numbers-differ : (why other : Refusal) → number why ≡ number other → why �
 numbers-differ why other e = sym (named-back why) ∙ ap named e ∙ named-back other
 
 pub answers : Answers
+unfolding tableWords
 answers =
     record {
-      zero-in-the-rest = λ why. record { writing = refl; an-instant = refl; a-stamp = refl; a-label = refl; a-text = refl; a-pair = refl; a-block = λ place. refl };
+      a-table-in-c = refl;
+      minus-one-in-c = refl;
+      table-and-words = undone;
+      zero-in-the-rest = λ why. record { writing = refl; an-instant = refl; a-stamp = refl; a-label = refl; a-text = refl; a-pair = refl; a-block = λ place. refl; a-block-in-c = λ place. refl };
       numbers-differ = numbers-differ;
       none-is-success = number-some;
     }

@@ -5,8 +5,9 @@
 -- Assumes nothing.
 use mathlib.Core.Path.{_≡_}
 use mathlib.Core.Bool.{false}
+use mathlib.Core.List.{_∷_, _++_}
 use Prim.Native.Nat.{ℕ}
-use lib.IntN.{pos}
+use lib.IntN.{pos, negsuc}
 use lib.Ieee.{fin}
 use lib.ListN.{replicate}
 use Rattle.answer.specs.declared.Refusal.{Refusal}
@@ -20,7 +21,9 @@ use Rattle.clock.specs.declared.TickAnswer.the-variants.{Refused as NoTick}
 use Rattle.text.specs.declared.TextAnswer.the-variants.{Refused as NoText}
 use Rattle.julian.specs.declared.JulianAnswer.the-variants.{Refused as NoDate}
 use Rattle.leap.specs.Readers.{noTable, refusedAt, tableResults}
-use Rattle.mundreff.specs.Answers.{stampNumbers, labelNumbers, textNumbers, pairNumbers}
+use Rattle.leap.specs.Desk.{N}
+use Rattle.mundreff.specs.Words.{offsetWord, tableWords, Undone}
+use Rattle.mundreff.specs.Answers.{tableNumbers, stampNumbers, labelNumbers, textNumbers, pairNumbers}
 
 -- what a refusal hands over, whatever the call: its number, and zero in the rest
 pub record ZeroInTheRest (why : Refusal) : Type 0 where
@@ -30,10 +33,15 @@ pub record ZeroInTheRest (why : Refusal) : Type 0 where
   pub a-label : labelNumbers (NoTick why) ≡ (number why, replicate 6 0)
   pub a-text : textNumbers (NoText why) ≡ (number why, pos 0, replicate 8 0)
   pub a-pair : pairNumbers (NoDate why) ≡ (number why, fin false 0 (pos 0), fin false 0 (pos 0))
-  -- a block has its place too
+  -- a block has its place too; in C its table is 129 words
   pub a-block : (place : ℕ) → tableResults (refusedAt why place) ≡ (number why, place, noTable)
+  pub a-block-in-c : (place : ℕ) → tableNumbers (refusedAt why place) ≡ (number why, place, replicate 129 0)
 
 pub record Answers : Type 0 where
+  -- a table in C: the count, 64 months, 64 offsets; -1 has all bits set
+  pub a-table-in-c : tableWords N ≡ 2 ∷ ((0 ∷ 6 ∷ replicate 62 0) ++ (10 ∷ 9 ∷ replicate 62 0))
+  pub minus-one-in-c : offsetWord (negsuc 0) ≡ 4294967295
+  pub table-and-words : Undone
   pub zero-in-the-rest : (why : Refusal) → ZeroInTheRest why
   -- no two refusals share a number, and none has that of success
   pub numbers-differ : (why other : Refusal) → number why ≡ number other → why ≡ other

@@ -7,7 +7,7 @@ use Prim.Native.Nat.{ℕ}
 use lib.IntN.{ℤ}
 use lib.Ieee.{Float}
 use Rattle.answer.specs.declared.Written.{Written}
-use Rattle.answer.specs.Buffers.{written, bufferAfter, writtenResults}
+use Rattle.answer.specs.Buffers.{writtenResults}
 use Rattle.leap.specs.declared.Table.{Table}
 use Rattle.leap.specs.Leap.{bulletinC}
 use Rattle.labels.specs.declared.Label.{Label}
@@ -18,9 +18,8 @@ use Rattle.stamp.specs.Stamps.{instantOf, instantResults, stampOf}
 use Rattle.clock.specs.declared.TickAnswer.{TickAnswer}
 use Rattle.clock.specs.Clock.{start, tick}
 use Rattle.leap.specs.declared.TableRead.{TableRead}
-use Rattle.block.specs.Blocks.{blockOf}
+use Rattle.block.specs.Blocks.{writeBlock, writeBlockAfter}
 use Rattle.block.specs.Reading.{readBlock}
-use Rattle.block.specs.Blocks.{tests}
 use Rattle.text.specs.declared.TextAnswer.{TextAnswer}
 use Rattle.text.specs.Text.{readText, writeText, writeTextAfter}
 use Rattle.julian.specs.declared.JulianAnswer.{JulianAnswer}
@@ -28,7 +27,6 @@ use Rattle.julian.specs.declared.JulianDate.{JulianDate}
 use Rattle.julian.specs.Dates.{writeJulian, readJulian}
 use Rattle.mundreff.specs.Words.{tableFrom, tableWords}
 use Rattle.mundreff.specs.Answers.{tableNumbers, stampNumbers, textNumbers, labelNumbers, pairNumbers}
-use Rattle.block.specs.Blocks.{writeBlock, writeBlockAfter}
 use Rattle.mundreff.specs.Calls.{labelFrom, scaleFrom, readingFrom, pair}
 
 -- at most one value is allowed
@@ -45,7 +43,7 @@ WroteInC = (ℕ × ℕ) × List ℕ
 
 pub record Settled : Type 0 where
   pub read-block : (block : List ℕ) → AtMostOne (λ (r : TableRead). r ≡ readBlock block)
-  pub write-block : (t : Table) (buffer : List ℕ) → AtMostOne (λ (r : Wrote). (r .0 ≡ written (tests t) (blockOf t) buffer) × (r .1 ≡ bufferAfter (tests t) (blockOf t) buffer))
+  pub write-block : (t : Table) (buffer : List ℕ) → AtMostOne (λ (r : Wrote). (r .0 ≡ writeBlock t buffer) × (r .1 ≡ writeBlockAfter t buffer))
   pub instant-of : (t : Table) (scale : ℕ) (r : Reading) → AtMostOne (λ (a : InstantAnswer). a ≡ instantOf t scale r)
   pub stamp-of : (t : Table) (instant : ℤ) (scale : ℕ) → AtMostOne (λ (a : StampAnswer). a ≡ stampOf t instant scale)
   pub read-text : (t : Table) (scale : ℕ) (text : List ℕ) → AtMostOne (λ (a : TextAnswer). a ≡ readText t scale text)

@@ -1,8 +1,21 @@
--- The night desk's rows: what the definitions give for each, in the scope's numbers. The rows stand once, those on stamps as texts in
--- crates/text/specs/Desk.antt and those on blocks in crates/block/specs/Desk.antt; the proved set (marked P) is all of them here.
+-- The night desk's proved rows (marked P) as one table: what the definitions give for each, in the scope's numbers. Each row stands once: those on stamps,
+-- as texts, in crates/text/specs/Desk.antt, those on blocks in crates/block/specs/Desk.antt.
 -- Assumes nothing.
-use Rattle.text.specs.Desk.{rows as textRows, AllRight as TextsRight}
-use Rattle.block.specs.Desk.{rows as blockRows, AllRight as BlocksRight}
+use mathlib.Core.List.{List, [], _∷_, _++_, map}
+use Rattle.text.specs.Desk.{Row as TextRow, rows as textRows, Right as TextRight}
+use Rattle.block.specs.Desk.{Row as BlockRow, rows as blockRows, Right as BlockRight}
 
-abbrev pub Worked : Type 0
-Worked = TextsRight textRows × BlocksRight blockRows
+pub data Row : Type 0 where
+  of-text : TextRow → Row
+  of-block : BlockRow → Row
+
+abbrev pub rows : List Row
+rows = map of-text textRows ++ map of-block blockRows
+
+abbrev pub Right : Row → Type 0
+Right (of-text r) = TextRight r
+Right (of-block r) = BlockRight r
+
+abbrev pub AllRight : List Row → Type 0
+AllRight [] = Unit {0}
+AllRight (r ∷ rs) = Right r × AllRight rs

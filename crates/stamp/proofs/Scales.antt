@@ -16,7 +16,8 @@ use Rattle.labels.proofs.Years.{axis-is}
 use Rattle.labels.proofs.Exists.{Exists, second-few, second-uniform}
 use Rattle.stamp.specs.declared.Scale.{Scale}
 use Rattle.stamp.specs.declared.Scale.the-variants.{Utc, Tai, Tdt, Gps}
-use Rattle.stamp.specs.Scales.{fixed, offsetsOf, firstOffset, mostSecond, toInstant, toAxis}
+use Rattle.stamp.specs.Scales.{fixed, offsetsOf, mostSecond, toInstant, toAxis}
+use Rattle.stamp.specs.Parts.{firstOffset}
 
 -- ---- the calendar rule
 

@@ -48,13 +48,6 @@ offsetsOf t Tai = uniform
 offsetsOf t Tdt = uniform
 offsetsOf t Gps = uniform
 
--- in January 1972, under every accepted table
-abbrev pub firstOffset : Scale → ℤ
-firstOffset Utc = pos 10
-firstOffset Tai = pos 0
-firstOffset Tdt = pos 0
-firstOffset Gps = pos 0
-
 abbrev pub mostSecond : Scale → ℕ
 mostSecond Utc = 60
 mostSecond Tai = 59

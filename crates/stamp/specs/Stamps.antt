@@ -1,8 +1,8 @@
 -- The instant of a stamp, the stamp of an instant, and the calls that answer them. That each undoes the other is `Undo` of Promise.
 -- Assumes nothing.
 use mathlib.Core.Bool.{Bool, _&&_}
-use mathlib.Core.List.{List, [], _∷_, _++_}
-use Prim.Native.Nat.{ℕ, _/_, _%_}
+use mathlib.Core.List.{List, [], _∷_}
+use Prim.Native.Nat.{ℕ}
 use lib.Dec.{leb}
 use lib.IntN.{ℤ, pos, natAbs}
 use Rattle.answer.specs.declared.Refusal.{Refusal}
@@ -11,15 +11,12 @@ use Rattle.answer.specs.Refusals.{number, refusing}
 use Rattle.leap.specs.declared.Table.{Table}
 use Rattle.labels.specs.declared.Reading.{Reading}
 use Rattle.labels.specs.Labels.{uniform, noLabel, whole, labelTests, hasSecond}
-use Rattle.labels.specs.Seconds.{microOf, axisOf, first, last, inYears, placeAt, readingAt}
+use Rattle.labels.specs.Seconds.{microOf, axisOf, first, last, inYears, readingAt}
 use Rattle.stamp.specs.declared.Scale.{Scale}
 use Rattle.stamp.specs.declared.Scale.the-variants.{Utc}
 use Rattle.stamp.specs.declared.Stamp.{Stamp}
 use Rattle.stamp.specs.declared.InstantAnswer.{InstantAnswer}
 use Rattle.stamp.specs.declared.InstantAnswer.the-variants.{At, Refused}
-use Rattle.stamp.specs.declared.Moment.{Moment}
-use Rattle.stamp.specs.declared.MomentAnswer.{MomentAnswer}
-use Rattle.stamp.specs.declared.MomentAnswer.the-variants.{In, Refused as Nowhere}
 use Rattle.stamp.specs.declared.StampAnswer.{StampAnswer}
 use Rattle.stamp.specs.declared.StampAnswer.the-variants.{Stamped, Refused as NoStamp}
 use Rattle.stamp.specs.declared.ShownAnswer.{ShownAnswer}
@@ -52,16 +49,6 @@ inRange t s x = inYears (offsetsOf t s) (toAxis s x)
 -- the microsecond of the axis, which in range is not negative
 abbrev pub axisCount : Scale → ℤ → ℕ
 axisCount s x = natAbs (toAxis s x)
-
--- where it falls: a second of a month, and the microsecond of that
-abbrev pub momentAt : Table → Scale → ℤ → Moment
-momentAt t s x = record { scale = s; place = placeAt (offsetsOf t s) (axisCount s x / 1000000); micro = axisCount s x % 1000000 }
-
-abbrev pub momentIn : Table → Scale → ℤ → MomentAnswer
-momentIn t s x = refusing Nowhere ((inRange t s x, RANGE) ∷ []) (In (momentAt t s x))
-
-unfoldable pub momentOf : Table → ℤ → ℕ → MomentAnswer
-momentOf t x k = refusing Nowhere (scaleTests t k) (momentIn t (scaleOf k) x)
 
 abbrev pub stampAt : Table → Scale → ℤ → Stamp
 stampAt t s x = record { scale = s; reading = readingAt (offsetsOf t s) (axisCount s x) }

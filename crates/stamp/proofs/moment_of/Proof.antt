@@ -7,7 +7,7 @@ use Rattle.leap.specs.Leap.{tabled}
 use Rattle.stamp.specs.declared.ScaleAnswer.{ScaleAnswer}
 use Rattle.stamp.specs.declared.MomentAnswer.the-variants.{Refused}
 use Rattle.stamp.specs.Scales.{asked}
-use Rattle.stamp.specs.Stamps.{momentIn, momentOf}
+use Rattle.stamp.specs.Parts.{momentIn, momentOf}
 use Rattle.stamp.proofs.First.{onScale, then-asked, asked-accepted}
 use Rattle.stamp.proofs.moment_of.Statement.{statement}
 use Rattle.stamp.proofs.moment_of.Tie as tie

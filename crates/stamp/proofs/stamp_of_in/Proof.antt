@@ -8,7 +8,8 @@ use Rattle.leap.specs.Leap.{tabled}
 use Rattle.labels.specs.declared.Label.{Label}
 use Rattle.stamp.specs.declared.MomentAnswer.{MomentAnswer}
 use Rattle.stamp.specs.declared.StampAnswer.the-variants.{Stamped}
-use Rattle.stamp.specs.Stamps.{momentOf, stampOf}
+use Rattle.stamp.specs.Stamps.{stampOf}
+use Rattle.stamp.specs.Parts.{momentOf}
 use Rattle.stamp.proofs.Moments.{stamped, stamp-of-moment}
 use Rattle.stamp.proofs.stamp_of_in.Statement.{statement}
 use Rattle.stamp.proofs.stamp_of_in.Tie as tie

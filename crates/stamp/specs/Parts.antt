@@ -1,0 +1,33 @@
+-- What the contracts of private functions cite.
+-- Assumes nothing.
+use mathlib.Core.List.{[], _∷_}
+use Prim.Native.Nat.{ℕ, _/_, _%_}
+use lib.IntN.{ℤ, pos}
+use Rattle.answer.specs.declared.Refusal.the-variants.{Range as RANGE}
+use Rattle.answer.specs.Refusals.{refusing}
+use Rattle.leap.specs.declared.Table.{Table}
+use Rattle.labels.specs.Seconds.{placeAt}
+use Rattle.stamp.specs.declared.Scale.{Scale}
+use Rattle.stamp.specs.declared.Scale.the-variants.{Utc, Tai, Tdt, Gps}
+use Rattle.stamp.specs.declared.Moment.{Moment}
+use Rattle.stamp.specs.declared.MomentAnswer.{MomentAnswer}
+use Rattle.stamp.specs.declared.MomentAnswer.the-variants.{In, Refused as Nowhere}
+use Rattle.stamp.specs.Scales.{scaleOf, scaleTests, offsetsOf}
+use Rattle.stamp.specs.Stamps.{inRange, axisCount}
+
+-- a scale's offset in January 1972, under every accepted table
+abbrev pub firstOffset : Scale → ℤ
+firstOffset Utc = pos 10
+firstOffset Tai = pos 0
+firstOffset Tdt = pos 0
+firstOffset Gps = pos 0
+
+-- where an instant falls: a second of a month, and the microsecond of that
+abbrev pub momentAt : Table → Scale → ℤ → Moment
+momentAt t s x = record { scale = s; place = placeAt (offsetsOf t s) (axisCount s x / 1000000); micro = axisCount s x % 1000000 }
+
+abbrev pub momentIn : Table → Scale → ℤ → MomentAnswer
+momentIn t s x = refusing Nowhere ((inRange t s x, RANGE) ∷ []) (In (momentAt t s x))
+
+unfoldable pub momentOf : Table → ℤ → ℕ → MomentAnswer
+momentOf t x k = refusing Nowhere (scaleTests t k) (momentIn t (scaleOf k) x)
