@@ -3,7 +3,7 @@
 ghost use mathlib.Core.Path.{_≡_};
 ghost use Rattle.months.specs.Months.{leapYear, monthLength};
 ghost use Rattle.calendar.specs.Days.{dayOfYear};
-ghost use Rattle.calendar.specs.Dates.{monthSpan, spanOfDay, monthDay, likeYear, dateInYear};
+ghost use Rattle.calendar.specs.Dates.{spanOfDay, monthDay, likeYear, dateInYear};
 
 // A month: its number, the days before it, and its own days.
 pub struct Span {
@@ -51,16 +51,6 @@ pub fn month_length(m: u32) -> u32
         return LEAP[k];
     }
     COMMON[k]
-}
-
-pub fn month(m: u32) -> Span
-    ensures { λ r. ⌜ r ≡ monthSpan m ⌝ }
-{
-    Span {
-        number: m,
-        start: months::days_before(m),
-        length: month_length(m),
-    }
 }
 
 // ---- days

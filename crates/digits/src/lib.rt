@@ -2,12 +2,12 @@
 // Every public function is total: a byte past the end is 0, and a text without room is not written.
 ghost use mathlib.Core.Path.{_≡_};
 ghost use mathlib.Core.List.{[], _∷_};
-ghost use Prim.Native.Nat.{_+_, _≤_, _<_, min};
+ghost use Prim.Native.Nat.{_+_, _≤_, _<_};
 ghost use lib.IntN.{natAbs};
 ghost use lib.ListN.{length, getD};
 ghost use Rattle.laws.specs.Placed.{place};
-ghost use Rattle.digits.specs.Bytes.{bytesAt, sameBytes, Appended, Ends};
-ghost use Rattle.digits.specs.Decimals.{isDigit, digitValue, allDigits, number, digitsOf, widthOf, decimalOf, decimalText, signedText};
+ghost use Rattle.digits.specs.Bytes.{sameBytes, Appended, Ends};
+ghost use Rattle.digits.specs.Decimals.{isDigit, digitValue, digitsOf, widthOf, decimalOf, decimalText, signedText};
 ghost use Rattle.digits.specs.Months.{monthName, monthNamed};
 
 pub enum Number {
@@ -33,19 +33,6 @@ pub fn byte_at(s: &[u8], i: usize) -> u8
         return s[i];
     }
     0
-}
-
-// The byte that is k past an index: the sum never wraps.
-fn byte_past(s: &[u8], i: usize, k: usize) -> u8
-    ensures { λ r. ⌜ r ≡ getD (now (s .entry)) (i + k) 0 ⌝ }
-{
-    if s.len() <= i {
-        return 0;
-    }
-    if s.len() - i <= k {
-        return 0;
-    }
-    s[i + k]
 }
 
 // Stores the bytes of src from index `at` on.
@@ -89,40 +76,6 @@ fn value(b: u8) -> u8
         return b - b'0';
     }
     0
-}
-
-// Whether w bytes from an index on are digits.
-pub fn all_digits(s: &[u8], i: usize, w: usize) -> bool
-    ensures { λ r. ⌜ r ≡ allDigits (bytesAt (now (s .entry)) i w) ⌝ }
-{
-    let mut k = 0;
-    while k < w {
-        if !is_digit(byte_past(s, i, k)) {
-            return false;
-        }
-        k += 1;
-    }
-    true
-}
-
-fn at_most_nine(w: usize) -> usize
-    ensures { λ r. ⌜ r ≡ min 9 w ⌝ }
-{
-    if w < 9 { w } else { 9 }
-}
-
-// The number that w bytes from an index on spell, or the first nine of them.
-pub fn number_at(s: &[u8], i: usize, w: usize) -> u32
-    ensures { λ r. ⌜ r ≡ number (now (s .entry)) i (min 9 w) ⌝ }
-{
-    let width = at_most_nine(w);
-    let mut n = 0;
-    let mut k = 0;
-    while k < width {
-        n = n * 10 + value(byte_past(s, i, k)) as u32;
-        k += 1;
-    }
-    n
 }
 
 // The number that a word's digits spell, if it is at most `most`.

@@ -33,7 +33,7 @@ use Rattle.stamp.specs.Scales.{scaleOf, knownScale, scaleTests, offsetsOf, most
 use Rattle.stamp.specs.Stamps.{instantFor, instantOf, inRange, stampAt, shownOf, showingTests, instantShowing}
 use Rattle.stamp.specs.Promise.{Reads, stamp}
 use Rattle.stamp.proofs.Scales.{most-sixty}
-use Rattle.stamp.proofs.Undone.{back-reads, stamp-given, stamp-back}
+use Rattle.stamp.proofs.Promise.{back-reads, stamp-given, stamp-back}
 use Rattle.julian.specs.declared.JulianDate.{JulianDate}
 use Rattle.julian.specs.declared.JulianAnswer.{JulianAnswer}
 use Rattle.julian.specs.declared.JulianAnswer.the-variants.{Dated, Refused}

@@ -13,7 +13,7 @@ use Rattle.leap.specs.declared.Table.{Table}
 use Rattle.stamp.specs.declared.Scale.{Scale}
 use Rattle.stamp.specs.Scales.{scaleOf, mostSecond}
 use Rattle.stamp.specs.Stamps.{instantResults}
-use Rattle.stamp.proofs.Undone.{at-instant}
+use Rattle.stamp.proofs.Promise.{at-instant}
 use Rattle.julian.specs.declared.JulianDate.{JulianDate}
 use Rattle.julian.specs.Fraction.{day, Close}
 use Rattle.julian.specs.Dates.{micros, julianResults}

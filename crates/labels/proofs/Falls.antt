@@ -16,7 +16,7 @@ use Rattle.calendar.specs.Days.{monthOfDay}
 use Rattle.months.proofs.Laws.{days-next, length-least}
 use Rattle.calendar.proofs.Days.{in-month}
 use Rattle.labels.specs.Labels.{Offsets}
-use Rattle.labels.specs.Seconds.{begins, monthAt, since}
+use Rattle.labels.specs.Seconds.{firstMonth, endMonth, begins, monthAt, since}
 use Rattle.laws.proofs.Offsets.{Steps}
 
 -- second s is not before month m, or before it
@@ -31,10 +31,10 @@ pub record In (o : Offsets) (m s : ℕ) : Type 0 where
   pub begun : Begun o m s
   pub ends : Before o (m + 1) s
 
--- second s is in the years that have labels, from month 23,664 to month 119,999
+-- second s is in the years that have labels
 pub record Covered (o : Offsets) (s : ℕ) : Type 0 where
-  pub begun : Begun o 23664 s
-  pub ends : Before o 120000 s
+  pub begun : Begun o firstMonth s
+  pub ends : Before o endMonth s
 
 -- the code's guess: the month of the day 128 seconds before
 abbrev pub guess : ℕ → ℕ
@@ -46,9 +46,6 @@ module _ (o : Offsets) (m s : ℕ) where
 
   pub before-to : leZ (begins o m) (pos s) ≡ false → Before o m s
   before-to e = omega (arith, leZ-false (begins o m) (pos s) e, sum-is (pos (86400 * daysBefore m)) (o m))
-
-  pub begun-from : Begun o m s → begins o m ≤ℤ pos s
-  begun-from h = le-from (begins o m) (pos s) (omega (arith, sum-is (pos (86400 * daysBefore m)) (o m)))
 
   pub since-is : Begun o m s → since (daysBefore m) (o m) s + (86400 * daysBefore m + up (o m)) ≡ s + down (o m)
   unfolding since

@@ -10,7 +10,7 @@ use Rattle.months.specs.Months.{daysBefore}
 use Rattle.months.proofs.Laws.{days-1972, days-mono, days-next, days-most, length-most}
 use Rattle.labels.specs.declared.Label.{Label}
 use Rattle.labels.specs.Labels.{Offsets, monthOf}
-use Rattle.labels.specs.Seconds.{placeIn, placeAt, labelOf, labelAt, lastMonth, monthAt, secondOf}
+use Rattle.labels.specs.Seconds.{firstMonth, placeIn, placeAt, labelOf, labelAt, lastMonth, monthAt, secondOf}
 use Rattle.labels.proofs.Falls.{In, Covered, since-is, before-later, month-at}
 use Rattle.labels.proofs.Exists.{Exists, label-exists, label-second, label-month, second-falls, label-back}
 use Rattle.labels.proofs.Order.{Stands}
@@ -27,10 +27,10 @@ module _ (o : Offsets) (st : Steps o) where
   -- ---- from a label to its second and back
 
   module _ (l : Label) (s : ℕ) (a : At o l s) where
-    month-low : 23664 ≤ monthOf l
+    month-low : firstMonth ≤ monthOf l
     month-low = omega (arith, a .since-1972)
 
-    pub month-high : monthOf l ≤ 119999
+    pub month-high : monthOf l ≤ lastMonth
     month-high = omega (arith, a .until-9999, a .exists .month-high)
 
     pub in-its-month : In o (monthOf l) s

@@ -32,6 +32,16 @@ axisOf o r = axisAt (microOf r) (o (monthOf (r .label)))
 
 -- ---- the years that have labels
 
+-- January 1972 and December 9999 among the calendar's months, and the month after them
+abbrev pub firstMonth : ℕ
+firstMonth = 23664
+
+abbrev pub lastMonth : ℕ
+lastMonth = 119999
+
+abbrev pub endMonth : ℕ
+endMonth = 120000
+
 abbrev pub first : Reading
 first = at 1972 1 1 0 0 0 0
 
@@ -56,10 +66,6 @@ begins o m = dayBegins (daysBefore m) (o m)
 unfoldable pub monthAt : Offsets → ℕ → ℕ → ℕ
 monthAt o s zero = 0
 monthAt o s (suc m) = cond (leZ (begins o (suc m)) (pos s)) (suc m) (monthAt o s m)
-
--- December 9999, the last month that has labels
-abbrev pub lastMonth : ℕ
-lastMonth = 119999
 
 -- the seconds since day d began
 unfoldable pub since : ℕ → ℤ → ℕ → ℕ

@@ -33,7 +33,7 @@ pub enum Judged {
     Refused(Refusal),
 }
 
-// A second of a month, counted from its begin; the month with the days before it and its own.
+// A second of a month, counted from its beginning; the month with the days before it and its own.
 pub struct Place {
     pub month: u32,
     pub start: u64,

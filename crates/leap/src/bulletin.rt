@@ -1,4 +1,4 @@
-// The entries of Bulletin C, and zero in the places that they leave: the month of each, January 1972 being 0, and TAI-UTC from its first day.
+// The entries of Bulletin C, and zero in the places that they leave: the month of each, January 1972 being 0.
 pub(crate) const MONTHS: [u32; 64] = [
     0,
     6,

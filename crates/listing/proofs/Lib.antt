@@ -3,4 +3,4 @@ pub mod Row
 pub mod Rows
 pub mod Judged
 pub mod Printing
-pub mod Reach
+pub mod Promise

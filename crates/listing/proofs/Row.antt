@@ -24,7 +24,7 @@ use Rattle.labels.specs.Seconds.{microOf, secondOf}
 use Rattle.stamp.specs.Stamps.{instantFor, instantOf}
 use Rattle.stamp.specs.Promise.{stamp}
 use Rattle.stamp.proofs.Scales.{instant-is}
-use Rattle.stamp.proofs.Undone.{stamp-back, stamp-given}
+use Rattle.stamp.proofs.Promise.{stamp-back, stamp-given}
 use Rattle.clock.specs.Promise.{admits}
 use Rattle.pictures.specs.Pictures.{pictureText}
 use Rattle.text.specs.Text.{textOf, textAt, writeTextAfter}

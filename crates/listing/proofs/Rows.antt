@@ -15,7 +15,7 @@ use Rattle.labels.specs.declared.Label.{Label}
 use Rattle.clock.specs.declared.TickAnswer.the-variants.{Next, Refused as Ended}
 use Rattle.clock.specs.Clock.{tick, tickResults}
 use Rattle.clock.specs.Promise.{last, admits, Follows, ended}
-use Rattle.clock.proofs.Run.{all-tick}
+use Rattle.clock.proofs.Promise.{all-tick}
 use Rattle.digits.specs.Bytes.{Placed}
 use Rattle.digits.proofs.Bytes.{is-placed, then-placed}
 use Rattle.listing.specs.Listing.{rowText, onward, rows}

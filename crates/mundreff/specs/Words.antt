@@ -9,6 +9,7 @@ use mir.Syntax.{w32}
 use mir.Val.{toZ, ofZ, Fits, SFits}
 use Rattle.leap.specs.declared.Table.{Table}
 use Rattle.leap.specs.Leap.{tabled}
+use Rattle.leap.specs.Readers.{noTable}
 
 -- the signed number with these bits, and the bits of a signed number
 abbrev pub offsetFrom : ℕ → ℤ
@@ -47,4 +48,4 @@ pub record Undone : Type 0 where
   pub table-back : (t : Table) → Held t → tableFrom (tableWords t) ≡ t
   pub words-back : (words : List ℕ) → Struct words → tableWords (tableFrom words) ≡ words
   -- the all-zero table of a refusal is a struct of zeros
-  pub zeros : tableWords (tabled 0 (replicate 64 0) (replicate 64 (pos 0))) ≡ replicate 129 0
+  pub zeros : tableWords noTable ≡ replicate 129 0

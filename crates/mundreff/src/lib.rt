@@ -26,7 +26,6 @@ use leap::Table;
 use leap::TableAnswer;
 use leap::TableRead;
 use stamp::InstantAnswer;
-use stamp::Scale;
 use stamp::Stamp;
 use stamp::StampAnswer;
 use text::TextAnswer;

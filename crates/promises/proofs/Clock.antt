@@ -23,9 +23,9 @@ use Rattle.stamp.specs.Scales.{scaleTests, toInstant}
 use Rattle.stamp.specs.Stamps.{instantFor, instantOf, instantResults}
 use Rattle.stamp.specs.Promise.{GivesInstant}
 use Rattle.stamp.proofs.Scales.{to-instant-is}
-use Rattle.stamp.proofs.Undone.{undo}
+use Rattle.stamp.proofs.Promise.{undo}
 use Rattle.clock.specs.Promise.{Shows}
-use Rattle.clock.proofs.Run.{all-tick}
+use Rattle.clock.proofs.Promise.{all-tick}
 use Rattle.promises.specs.Clock.{secondsOn, Demand3}
 
 module _ (t : Table) (ok : accepted t ≡ true) (n : ℕ) (l : Label) (e : Shows t n l) where

@@ -1,6 +1,6 @@
 -- Stamps and instants, from the theorem of the crate `stamp`.
 -- Assumes nothing.
-use Rattle.stamp.proofs.Undone.{undo}
+use Rattle.stamp.proofs.Promise.{undo}
 use Rattle.promises.specs.Stamps.{StampsAndInstants}
 
 pub stamps-and-instants : StampsAndInstants

@@ -56,7 +56,7 @@ mostSecond Gps = 59
 
 -- ---- the map
 
--- the axis less the instant, in microseconds: each uniform scale's own fixed offset
+-- a uniform scale less TAI, in microseconds: its own fixed offset
 abbrev pub fixed : Scale → ℤ
 fixed Utc = pos 0
 fixed Tai = pos 0

@@ -12,7 +12,7 @@ ghost use Rattle.leap.specs.Leap.{tabled, accepted};
 ghost use Rattle.months.specs.Months.{daysBefore};
 ghost use Rattle.labels.specs.declared.Judged.the-variants.{Real};
 ghost use Rattle.labels.specs.Labels.{uniform, monthOf, judged, hasSecond};
-ghost use Rattle.labels.specs.Seconds.{microOf, axisAt, inYears, dayBegins, placeAt};
+ghost use Rattle.labels.specs.Seconds.{microOf, axisAt, inYears, lastMonth, dayBegins, placeAt};
 ghost use Rattle.stamp.specs.Scales.{scaleOf, scaleNumber, asked, fixed, offsetsOf, mostSecond, toInstant};
 ghost use Rattle.stamp.specs.Parts.{firstOffset, momentIn, momentOf};
 ghost use Rattle.stamp.specs.Stamps.{instantFor, instantIn, instantOf, inRange, axisCount, stampOf, shownOf, instantShowing};
@@ -81,7 +81,7 @@ fn axis_at(micro: u64, offset: i32) -> i64
 }
 
 impl Scale {
-    // The axis less the instant, in microseconds.
+    // A uniform scale less TAI, in microseconds.
     pub const TAI: i64 = 0;
 
     pub const TDT: i64 = 32184000;
@@ -172,7 +172,7 @@ impl Scale {
 
     // In December 9999.
     fn last_offset<'a>(self, count: usize, months: &'a [u32; 64], offsets: &'a [i32; 64]) -> i32
-        ensures { λ r. ⌜ r ≡ offsetsOf (tabled count (now (months .entry)) (now (offsets .entry))) self 119999 ⌝ }
+        ensures { λ r. ⌜ r ≡ offsetsOf (tabled count (now (months .entry)) (now (offsets .entry))) self lastMonth ⌝ }
     {
         match self {
             Scale::Utc => leap::offset_at(count, months, offsets, Scale::LAST_MONTH),

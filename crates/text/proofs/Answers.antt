@@ -26,7 +26,7 @@ use Rattle.stamp.specs.Scales.{scaleOf, offsetsOf, mostSecond}
 use Rattle.stamp.specs.Stamps.{instantFor, instantIn, inRange, stampAt, stampOf}
 use Rattle.stamp.specs.Promise.{Reads, stamp}
 use Rattle.labels.proofs.Admitted.{admitted-to}
-use Rattle.stamp.proofs.Undone.{instant-given, instant-back}
+use Rattle.stamp.proofs.Promise.{instant-given, instant-back}
 use Rattle.text.specs.declared.TextAnswer.{TextAnswer}
 use Rattle.text.specs.declared.TextAnswer.the-variants.{Read, Refused}
 use Rattle.text.specs.Parts.{Plain}

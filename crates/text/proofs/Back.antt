@@ -38,7 +38,7 @@ use Rattle.stamp.specs.Promise.{Reads, stamp}
 use Rattle.labels.proofs.Facts.{clock-to}
 use Rattle.stamp.proofs.Scales.{instant-is}
 use Rattle.stamp.proofs.Ranges.{range-count}
-use Rattle.stamp.proofs.Undone.{stamp-given, stamp-back}
+use Rattle.stamp.proofs.Promise.{stamp-given, stamp-back}
 use Rattle.pictures.specs.Pictures.{dateText, clockText, pictureText}
 use Rattle.text.specs.Text.{dateAs, textOf, readText, textResults, writeTests, textAt, writeText, writeTextAfter}
 use Rattle.text.specs.Promise.{Gives, Names, Showable, Latest, Back}

@@ -11,7 +11,7 @@ use Rattle.answer.specs.Refusals.{refusing}
 use Rattle.stamp.specs.declared.Stamp.{Stamp}
 use Rattle.stamp.specs.declared.StampAnswer.{StampAnswer}
 use Rattle.stamp.specs.Stamps.{stampOf}
-use Rattle.stamp.proofs.Undone.{stamp-given}
+use Rattle.stamp.proofs.Promise.{stamp-given}
 use Rattle.pictures.specs.Pictures.{pictureText}
 use Rattle.text.specs.Text.{textOf, writeTests, textAt}
 use Rattle.text.proofs.Answers.{asWritten, write-as, stamp-plain}

@@ -109,16 +109,6 @@ module _ (t : Table) (acc : Accepted t) (sc : Scale) where
           instant-is = instant-again;
         }
 
--- what a reading that stands for an instant says
-module _ (t : Table) (acc : Accepted t) (sc : Scale) (r : Reading) (x : ℤ) (q : Reads t sc r x) where
-  pub reads-exists : Exists (offsetsOf t sc) (r .label)
-  reads-exists = admitted-to (offsetsOf t sc) (mostSecond sc) r (q .is-admitted) .exists
-
-  pub reads-in-range : inRange t sc x ≡ true
-  unfolding o
-  reads-in-range =
-      subst (λ (y : ℤ). inRange t sc y ≡ true) (q .instant-is) (there-in-range t acc sc r (admitted-to (offsetsOf t sc) (mostSecond sc) r (q .is-admitted)))
-
 -- ---- the calls
 
 no-instant : (x : ℤ) (why : Refusal) → NoInstant why ≡ InstantAt x → ⊥
