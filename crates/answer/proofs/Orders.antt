@@ -3,7 +3,7 @@
 use mathlib.Core.Path.{_≡_, refl, sym}
 use mathlib.Core.Bool.{Bool, true, false, cond, _&&_}
 use native.Mathlib.Omega.{arith}
-use mathlib.Core.List.{List, [], _∷_}
+use mathlib.Core.List.{List, [], _∷_, _++_}
 use Rattle.laws.proofs.Branches.{cond-yes, cond-rest}
 use Rattle.laws.proofs.Cases.{both, join}
 use Rattle.answer.specs.declared.Refusal.{Refusal}
@@ -23,6 +23,15 @@ none-refused refuse [] a e = refl
 none-refused refuse (test ∷ tests) a e =
     let p = both (test .0) (allPass tests) e in
     sym (passed (refuse (test .1)) (p .0) (sym (none-refused refuse tests a (p .1))))
+
+-- two orders in a row
+pub pass-append : (tests more : List (Bool × Refusal)) → allPass (tests ++ more) ≡ (allPass tests && allPass more)
+pass-append [] more = refl
+pass-append (test ∷ tests) more = go (test .0) (pass-append tests more)
+  where
+    go : (b : Bool) → allPass (tests ++ more) ≡ (allPass tests && allPass more) → (b && allPass (tests ++ more)) ≡ ((b && allPass tests) && allPass more)
+    go true e = e
+    go false e = refl
 
 -- an answer that is no refusal: every test passed
 pub was-passed : {A : Type 0} (refuse : Refusal → A) (tests : List (Bool × Refusal)) (a v : A) → ((why : Refusal) → refuse why ≡ v → ⊥) → refusing refuse tests a ≡ v → (allPass tests ≡ true) × (a ≡ v)
