@@ -103,7 +103,7 @@ module _ (t : Table) (acc : Accepted t) where
           (λ h. absurd (omega (arith, b .not-yet (omega (arith, a .inside)), a .has-begun (omega arith), grow (k + 1) j (omega arith) (omega (arith, a .inside, top-is))))))
           (lt-cases j k)
 
-  moves : MovesWithEntries t
+  pub moves : MovesWithEntries t
   moves =
       record {
         goes-up = λ m. (
