@@ -20,7 +20,7 @@ use Rattle.leap.proofs.Facts.{Accepted, accepted-to}
 use Rattle.leap.proofs.Moves.{at-first, steps-by-months}
 use Rattle.labels.specs.declared.Label.{Label}
 use Rattle.labels.specs.Labels.{Offsets, whole, monthOf, labelTests}
-use Rattle.labels.specs.Seconds.{secondOf, axisOf}
+use Rattle.labels.specs.Seconds.{secondOf, axisOf, firstMonth, lastMonth, endMonth}
 use Rattle.labels.proofs.Turn.{turn}
 use Rattle.labels.proofs.Falls.{before-later}
 use Rattle.labels.proofs.Exists.{second-few, second-falls}
@@ -32,6 +32,7 @@ use Rattle.clock.specs.declared.TickAnswer.{TickAnswer}
 use Rattle.clock.specs.declared.TickAnswer.the-variants.{Next, Refused}
 use Rattle.clock.specs.Clock.{start, tick, tickResults, onward, after}
 use Rattle.clock.specs.Promise.{first, last, admits, Follows, Shows, ended, Ends, Ticking, AllTick}
+use Rattle.clock.proofs.Days.{days-by-entries}
 use Rattle.clock.proofs.Rule.{Right, end-minute, begins-minute, ticks}
 
 module _ (t : Table) (ok : accepted t ≡ true) where
@@ -49,17 +50,17 @@ module _ (t : Table) (ok : accepted t ≡ true) where
   tai : ℕ → ℕ
   tai n = 62230291210 + n
 
-  ten : (up (o 23664) ≡ 10) × (down (o 23664) ≡ 0)
+  ten : (up (o firstMonth) ≡ 10) × (down (o firstMonth) ≡ 0)
   unfolding o
   ten = let e = at-first t acc in (ap up e, ap down e)
 
-  -- the ticks to the last second of 9999, after which month 120,000 begins
+  -- the ticks to the last second of 9999, after which year 10000 begins
   count : ℕ
-  count = 253339228789 + up (o 119999) - down (o 119999)
+  count = 253339228789 + up (o lastMonth) - down (o lastMonth)
 
-  end-is : 86400 * daysBefore 120000 + up (o 120000) ≡ tai count + 1 + down (o 120000)
+  end-is : 86400 * daysBefore endMonth + up (o endMonth) ≡ tai count + 1 + down (o endMonth)
   unfolding tai count
-  end-is = omega (arith, days-end, st .low 119999, ap up (st .at-rest), ap down (st .at-rest))
+  end-is = omega (arith, days-end, st .low lastMonth, ap up (st .at-rest), ap down (st .at-rest))
 
   -- ---- a label at a second
 
@@ -99,7 +100,7 @@ module _ (t : Table) (ok : accepted t ≡ true) where
   first-at : At o first (tai 0)
   unfolding tai
   first-at =
-      begins-minute o st first (62230291210 + 0) (omega (arith, length-least 23664)) refl (omega (arith, ten, first-second))
+      begins-minute o st first (62230291210 + 0) (omega (arith, length-least firstMonth)) refl (omega (arith, ten, first-second))
 
   onward-right : (n : ℕ) (p : TickAnswer) → Right o (tai n) p → Right o (tai (suc n)) (onward t p)
   unfolding tick o tai
@@ -132,8 +133,8 @@ module _ (t : Table) (ok : accepted t ≡ true) where
   last-at : At o last (tai count)
   unfolding tai count
   last-at =
-      let length : monthLength 119999 ≡ 31 = omega (arith, days-next 119999, days-last, days-end) in
-      omega (arith, end-minute o last (omega arith), last-second, st .low 119999, turn (o 119999) (o 120000) (st .by-one 119999), ap up (st .at-rest), ap down (st .at-rest))
+      let length : monthLength lastMonth ≡ 31 = omega (arith, days-next lastMonth, days-last, days-end) in
+      omega (arith, end-minute o last (omega arith), last-second, st .low lastMonth, turn (o lastMonth) (o endMonth) (st .by-one lastMonth), ap up (st .at-rest), ap down (st .at-rest))
 
   -- ---- one tick
 
@@ -197,6 +198,7 @@ module _ (t : Table) (ok : accepted t ≡ true) where
   unfolding tai
   ticking =
       record {
+        days-by-entries = days-by-entries t acc;
         starts-in-1972 = ap tickResults starts;
         ticks-to-the-next = ticks-on;
         shows-every-second = λ l e. let w = found l e in (w .0, ap tickResults (shows-it l (w .0) (w .1)));

@@ -13,7 +13,7 @@ use Rattle.months.proofs.Laws.{days-next, length-least}
 use Rattle.laws.proofs.Offsets.{Steps}
 use Rattle.labels.specs.declared.Label.{Label}
 use Rattle.labels.specs.Labels.{Offsets, label, monthOf, lastMinute, inLastMinute, minuteIn, minuteLength}
-use Rattle.labels.specs.Seconds.{secondOf}
+use Rattle.labels.specs.Seconds.{secondOf, endMonth}
 use Rattle.labels.proofs.Turn.{turn, minute-range}
 use Rattle.labels.proofs.Falls.{Begun}
 use Rattle.labels.proofs.Order.{Stands}
@@ -26,7 +26,7 @@ use Rattle.laws.proofs.Cases.{pick<}
 -- what is shown at second s: its label, or RANGE once year 10000 has begun
 abbrev pub Right : Offsets → ℕ → TickAnswer → Type 0
 Right o s (Next l) = At o l s
-Right o s (Refused why) = (why ≡ RANGE) × Begun o 120000 s
+Right o s (Refused why) = (why ≡ RANGE) × Begun o endMonth s
 
 -- the fields down to the minute are in their ranges
 abbrev Minute : Label → Type 0
@@ -89,9 +89,9 @@ module _ (o : Offsets) (st : Steps o) where
             begins-minute (label y mo 1 0 0 0) (s + 1) (omega (arith, length-least (12 * y + (mo - 1)))) refl
             (omega (arith, month-over, ap daysBefore e, ap up (ap o e), ap down (ap o e)))
 
-        year-over : 12 ≤ l .month → 9999 ≤ l .year → Begun o 120000 (s + 1)
+        year-over : 12 ≤ l .month → 9999 ≤ l .year → Begun o endMonth (s + 1)
         year-over mo y =
-            let e : monthOf l + 1 ≡ 120000 = omega arith in
+            let e : monthOf l + 1 ≡ endMonth = omega arith in
             omega (arith, month-over, ap daysBefore e, ap up (ap o e), ap down (ap o e))
 
     pub ticks : Right o (s + 1) (next (monthLength (monthOf l)) (minuteLength o l) l)

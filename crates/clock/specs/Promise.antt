@@ -4,13 +4,15 @@
 use mathlib.Core.Path.{_≡_}
 use mathlib.Core.Logic.{_⊎_}
 use mathlib.Core.Bool.{Bool, true}
-use Prim.Native.Nat.{ℕ, _*_, _≤_, _<_}
+use Prim.Native.Nat.{ℕ, _+_, _*_, _≤_, _<_}
 use lib.IntN.{pos, _+ℤ_}
 use Rattle.leap.specs.declared.Table.{Table}
 use Rattle.leap.specs.Leap.{accepted, offsetAt}
+use Rattle.leap.specs.Steps.{StepUp, StepDown}
 use Rattle.labels.specs.declared.Label.{Label}
-use Rattle.labels.specs.Labels.{label, whole, noLabel, admitted, Before}
+use Rattle.labels.specs.Labels.{label, whole, noLabel, Before}
 use Rattle.labels.specs.Seconds.{axisOf}
+use Rattle.labels.specs.Promise.{hasLabel, Days}
 use Rattle.clock.specs.Clock.{tick, tickResults, after}
 
 abbrev pub first : Label
@@ -21,7 +23,7 @@ last = label 9999 12 31 23 59 59
 
 -- UTC under the table has the label, from 1972-01-01 00:00:00 to the end of 9999
 abbrev pub admits : Table → Label → Bool
-admits t l = admitted (offsetAt t) 60 (whole l)
+admits t l = hasLabel (offsetAt t) l
 
 -- l′ is the next admitted label after l
 pub record Follows (t : Table) (l l′ : Label) : Type 0 where
@@ -43,8 +45,15 @@ pub record Ends (t : Table) (count : ℕ) : Type 0 where
   pub ends-with : Shows t count last
   pub stays-refused : (n : ℕ) → count < n → tickResults (after t n) ≡ ended
 
+-- "With a +1 entry the day before has a second 23:59:60. With a -1 entry the day before has no 23:59:59. All other UTC days have 86,400 seconds."
+-- Month m ends with the day before an entry of month m + 1.
+abbrev pub DaysByEntries : Table → Type 0
+DaysByEntries t = Days (offsetAt t) (λ m. StepUp t (m + 1)) (λ m. StepDown t (m + 1))
+
 -- under one table
 pub record Ticking (t : Table) : Type 0 where
+  -- which seconds are admitted
+  pub days-by-entries : DaysByEntries t
   pub starts-in-1972 : Shows t 0 first
   -- a tick of an admitted label gives the next admitted one, and RANGE after the last second of 9999
   pub ticks-to-the-next : (l : Label) → admits t l ≡ true → ((l′ : Label) × ((tickResults (tick t l) ≡ (0, l′)) × Follows t l l′)) ⊎ ((l ≡ last) × (tickResults (tick t l) ≡ ended))

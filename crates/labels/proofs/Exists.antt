@@ -30,7 +30,7 @@ pub record Exists (o : Offsets) (l : Label) : Type 0 where
   pub second-high : l .second < minuteLength o l
 
 -- a minute has 60 seconds, but for the last of a month
-minute-is : (x z : ℤ) (l : Label) → l .day ≤ monthLength (monthOf l) → l .hour ≤ 23 → l .minute ≤ 59 → ((1440 * l .day + (60 * l .hour + l .minute) < 1440 * monthLength (monthOf l) + 1439) × (minuteIn (monthLength (monthOf l)) x z l ≡ 60)) ⊎ ((1440 * l .day + (60 * l .hour + l .minute) ≡ 1440 * monthLength (monthOf l) + 1439) × (minuteIn (monthLength (monthOf l)) x z l ≡ lastMinute x z))
+pub minute-is : (x z : ℤ) (l : Label) → l .day ≤ monthLength (monthOf l) → l .hour ≤ 23 → l .minute ≤ 59 → ((1440 * l .day + (60 * l .hour + l .minute) < 1440 * monthLength (monthOf l) + 1439) × (minuteIn (monthLength (monthOf l)) x z l ≡ 60)) ⊎ ((1440 * l .day + (60 * l .hour + l .minute) ≡ 1440 * monthLength (monthOf l) + 1439) × (minuteIn (monthLength (monthOf l)) x z l ≡ lastMinute x z))
 unfolding minuteIn
 minute-is x z l hd hh hm = go (eqb (l .day) (monthLength (monthOf l))) (eqb (l .hour) 23) (eqb (l .minute) 59) refl refl refl
   where
@@ -39,6 +39,9 @@ minute-is x z l hd hh hm = go (eqb (l .day) (monthLength (monthOf l))) (eqb (l .
     go true true false p q r = inl (omega (arith, eqb-false (l .minute) 59 r), refl)
     go true false c p q r = inl (omega (arith, eqb-false (l .hour) 23 q), refl)
     go false b c p q r = inl (omega (arith, eqb-false (l .day) (monthLength (monthOf l)) p), refl)
+
+pub same-label : {y mo d h mi n y′ mo′ d′ h′ mi′ n′ : ℕ} → y ≡ y′ → mo ≡ mo′ → d ≡ d′ → h ≡ h′ → mi ≡ mi′ → n ≡ n′ → label y mo d h mi n ≡ label y′ mo′ d′ h′ mi′ n′
+same-label p q r s t u = cc
 
 -- ---- from a second to its label
 
@@ -167,16 +170,13 @@ module _ (o : Offsets) (st : Steps o) (l : Label) (e : Exists o l) (s : ℕ) (h 
   pub label-back : labelOf (placeIn o s (monthOf l)) ≡ l
   unfolding r labelOf inDay
   label-back =
-      same
+      same-label
       (omega (arith, e .month-low, e .month-high))
       (omega (arith, e .month-low, e .month-high))
       (omega (arith, day-is, e .day-low))
       (omega (arith, minute-at, e .minute-high))
       (omega (arith, minute-at, e .minute-high))
       (omega (arith, minute-at, left-is))
-    where
-      same : {y mo d h mi n y′ mo′ d′ h′ mi′ n′ : ℕ} → y ≡ y′ → mo ≡ mo′ → d ≡ d′ → h ≡ h′ → mi ≡ mi′ → n ≡ n′ → label y mo d h mi n ≡ label y′ mo′ d′ h′ mi′ n′
-      same p q r s t u = cc
 
 -- on a uniform scale no minute has more than 60 seconds
 pub second-uniform : (l : Label) → Exists uniform l → l .second ≤ 59

@@ -11,18 +11,18 @@ use Rattle.months.specs.Months.{daysBefore}
 use Rattle.months.proofs.Laws.{days-1972, days-most, days-next, length-most}
 use Rattle.calendar.proofs.Days.{in-month}
 use Rattle.labels.specs.Labels.{Offsets}
-use Rattle.labels.specs.Seconds.{firstMonth, lastMonth, begins, since, monthAt}
+use Rattle.labels.specs.Seconds.{firstMonth, lastMonth, endMonth, begins, since, monthAt}
 use Rattle.laws.proofs.Offsets.{Steps}
 use Rattle.labels.proofs.Falls.{In, Begun, Covered, begun-to, before-to, since-is, before-later, month-at, guess, guess-begun, guess-before}
 
 module _ (o : Offsets) (st : Steps o) (s : ℕ) (v : Covered o s) where
   pub second-range : (128 ≤ s) × (s ≤ 400000000000)
-  second-range = omega (arith, v .begun, v .ends, days-1972, days-most 120000, st .low 23664, st .low 120000)
+  second-range = omega (arith, v .begun, v .ends, days-1972, days-most endMonth, st .low firstMonth, st .low endMonth)
 
   -- a month that has begun is not past the last
   pub not-past : (m : ℕ) → Begun o m s → m ≤ lastMonth
   not-past m b =
-      by-order 119999 m (λ h. absurd (omega (arith, before-later o st s 120000 m h (v .ends)))) (λ h. h)
+      by-order lastMonth m (λ h. absurd (omega (arith, before-later o st s endMonth m h (v .ends)))) (λ h. h)
 
   pub guess-most : guess s ≤ lastMonth
   guess-most = not-past (guess s) (guess-begun o st s (second-range .0))
@@ -54,4 +54,4 @@ module _ (o : Offsets) (st : Steps o) (s : ℕ) (v : Covered o s) where
 
   pub not-early : (m : ℕ) → In o m s → firstMonth ≤ m
   not-early m i =
-      by-order m 23664 (λ h. absurd (omega (arith, v .begun, before-later o st s (m + 1) 23664 (omega arith) (i .ends)))) (λ h. h)
+      by-order m firstMonth (λ h. absurd (omega (arith, v .begun, before-later o st s (m + 1) firstMonth (omega arith) (i .ends)))) (λ h. h)

@@ -10,7 +10,7 @@ use Rattle.months.specs.Months.{daysBefore}
 use Rattle.months.proofs.Laws.{days-1972, days-mono, days-next, days-most, length-most}
 use Rattle.labels.specs.declared.Label.{Label}
 use Rattle.labels.specs.Labels.{Offsets, monthOf}
-use Rattle.labels.specs.Seconds.{firstMonth, placeIn, placeAt, labelOf, labelAt, lastMonth, monthAt, secondOf}
+use Rattle.labels.specs.Seconds.{firstMonth, lastMonth, endMonth, placeIn, placeAt, labelOf, labelAt, monthAt, secondOf}
 use Rattle.labels.proofs.Falls.{In, Covered, since-is, before-later, month-at}
 use Rattle.labels.proofs.Exists.{Exists, label-exists, label-second, label-month, second-falls, label-back}
 use Rattle.labels.proofs.Order.{Stands}
@@ -39,8 +39,8 @@ module _ (o : Offsets) (st : Steps o) where
     pub at-covered : Covered o s
     at-covered =
         record {
-          begun = by-order (s + down (o 23664)) (86400 * daysBefore 23664 + up (o 23664)) (λ h. absurd (omega (arith, in-its-month .begun, before-later o st s 23664 (monthOf l) month-low h))) (λ h. h);
-          ends = before-later o st s (monthOf l + 1) 120000 (omega (arith, month-high)) (in-its-month .ends);
+          begun = by-order (s + down (o firstMonth)) (86400 * daysBefore firstMonth + up (o firstMonth)) (λ h. absurd (omega (arith, in-its-month .begun, before-later o st s firstMonth (monthOf l) month-low h))) (λ h. h);
+          ends = before-later o st s (monthOf l + 1) endMonth (omega (arith, month-high)) (in-its-month .ends);
         }
 
     pub at-label : labelAt o s ≡ l
@@ -58,7 +58,7 @@ module _ (o : Offsets) (st : Steps o) where
   found l low high e =
       let m = monthOf l in (
         secondOf l + up (o m) - down (o m),
-        record { since-1972 = low; until-9999 = high; exists = e; stands = omega (arith, days-1972, days-mono 23664 m (omega arith), st .low m) },
+        record { since-1972 = low; until-9999 = high; exists = e; stands = omega (arith, days-1972, days-mono firstMonth m (omega arith), st .low m) },
       )
 
   -- ---- from a second to its label and back

@@ -9,3 +9,4 @@ pub mod Years
 pub mod Labelled
 pub mod Uniform
 pub mod Judging
+pub mod Promise

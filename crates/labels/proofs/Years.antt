@@ -14,7 +14,7 @@ use Rattle.months.specs.Months.{leapYear, monthLength, daysBefore}
 use Rattle.months.proofs.Laws.{days-split, days-next, days-1972}
 use Rattle.labels.specs.declared.Reading.{Reading}
 use Rattle.labels.specs.Labels.{Offsets, monthOf}
-use Rattle.labels.specs.Seconds.{secondOf, microOf, axisAt, axisOf, first, last, inYears}
+use Rattle.labels.specs.Seconds.{secondOf, microOf, axisAt, axisOf, firstMonth, lastMonth, endMonth, first, last, inYears}
 use Rattle.labels.proofs.Falls.{Covered}
 use Rattle.labels.proofs.Order.{Stands}
 
@@ -32,15 +32,15 @@ days-4799 : daysBefore 4799 ≡ 146066
 unfolding daysBefore monthLength leapYear
 days-4799 = refl
 
-length-4799 : monthLength 119999 ≡ 31
+length-4799 : monthLength lastMonth ≡ 31
 unfolding monthLength leapYear
 length-4799 = refl
 
-pub days-last : daysBefore 119999 ≡ 3652394
-days-last = omega (arith, days-split 119999, days-4799)
+pub days-last : daysBefore lastMonth ≡ 3652394
+days-last = omega (arith, days-split lastMonth, days-4799)
 
-pub days-end : daysBefore 120000 ≡ 3652425
-days-end = omega (arith, days-next 119999, days-last, length-4799)
+pub days-end : daysBefore endMonth ≡ 3652425
+days-end = omega (arith, days-next lastMonth, days-last, length-4799)
 
 pub first-second : secondOf (first .label) ≡ 62230291200
 unfolding secondOf
@@ -56,22 +56,22 @@ module _ (o : Offsets) (st : Steps o) (a : ℤ) where
   -- the axis' microsecond a, as the ends bound it
   abbrev pub Between : Type 0
   Between =
-      (62230291200000000 + 1000000 * up (o 23664) + down a ≤ up a + 1000000 * down (o 23664))
-      × (up a + 1000000 * down (o 119999) ≤ 315569519999999999 + 1000000 * up (o 119999) + down a)
+      (62230291200000000 + 1000000 * up (o firstMonth) + down a ≤ up a + 1000000 * down (o firstMonth))
+      × (up a + 1000000 * down (o lastMonth) ≤ 315569519999999999 + 1000000 * up (o lastMonth) + down a)
 
   pub years-to : inYears o a ≡ true → Between
   unfolding inYears
   years-to e =
       let p = leZ-true (axisOf o first) a (and-l _ (leZ a (axisOf o last)) e) in
       let q = leZ-true a (axisOf o last) (and-r (leZ (axisOf o first) a) _ e) in
-      omega (arith, first-second, last-second, axis-is (microOf first) (o 23664), axis-is (microOf last) (o 119999))
+      omega (arith, first-second, last-second, axis-is (microOf first) (o firstMonth), axis-is (microOf last) (o lastMonth))
 
   pub years-from : Between → inYears o a ≡ true
   unfolding inYears
   years-from b =
       join
-      (le-leZ (axisOf o first) a (omega (arith, first-second, axis-is (microOf first) (o 23664))))
-      (le-leZ a (axisOf o last) (omega (arith, last-second, axis-is (microOf last) (o 119999))))
+      (le-leZ (axisOf o first) a (omega (arith, first-second, axis-is (microOf first) (o firstMonth))))
+      (le-leZ a (axisOf o last) (omega (arith, last-second, axis-is (microOf last) (o lastMonth))))
 
 module _ (o : Offsets) (st : Steps o) (c : ℕ) where
   pub covered-to : inYears o (pos c) ≡ true → Covered o (c / 1000000)
