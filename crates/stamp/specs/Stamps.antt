@@ -1,4 +1,4 @@
--- The instant of a stamp, the stamp of an instant, and the calls that answer them. That each undoes the other is `Undo` of Promise.
+-- The instant of a stamp, the stamp of an instant, and the calls that answer them. Exactly when each is given is `Converts` of Promise.
 -- Assumes nothing.
 use mathlib.Core.Bool.{Bool, _&&_}
 use mathlib.Core.List.{List, [], _∷_}
