@@ -33,8 +33,9 @@ use Rattle.stamp.specs.declared.InstantAnswer.{InstantAnswer}
 use Rattle.stamp.specs.declared.InstantAnswer.the-variants.{At as InstantAt, Refused as NoInstant}
 use Rattle.stamp.specs.declared.StampAnswer.{StampAnswer}
 use Rattle.stamp.specs.declared.StampAnswer.the-variants.{Stamped, Refused as NoStamp}
-use Rattle.stamp.specs.Scales.{scaleOf, scaleTests, offsetsOf, mostSecond, toInstant, toAxis}
-use Rattle.stamp.specs.Stamps.{instantFor, instantOf, instantResults, inRange, axisCount, stampAt, stampOf, stampResults}
+use Rattle.stamp.specs.Scales.{scaleOf, scaleTests, offsetsOf, mostSecond, toInstant, toAxis, instantFor}
+use Rattle.stamp.specs.Back.{inRange, axisCount, stampAt}
+use Rattle.stamp.specs.Stamps.{instantOf, instantResults, stampOf, stampResults}
 use Rattle.stamp.specs.Promise.{Reads, stamp, Converts}
 use Rattle.stamp.proofs.Scales.{steps, most-of, axis-back, instant-back as axis-instant}
 use Rattle.stamp.proofs.Ranges.{range-low, range-high, near-axis, count-in-years}

@@ -12,8 +12,8 @@ use Rattle.labels.specs.declared.Reading.{Reading}
 use Rattle.labels.specs.Labels.{admitted}
 use Rattle.stamp.specs.declared.Scale.{Scale}
 use Rattle.stamp.specs.declared.Stamp.{Stamp}
-use Rattle.stamp.specs.Scales.{scaleOf, offsetsOf, mostSecond}
-use Rattle.stamp.specs.Stamps.{instantFor, instantOf, instantResults, stampOf, stampResults}
+use Rattle.stamp.specs.Scales.{scaleOf, offsetsOf, mostSecond, instantFor}
+use Rattle.stamp.specs.Stamps.{instantOf, instantResults, stampOf, stampResults}
 
 -- on scale s the reading r, admitted, stands for the instant x
 pub record Reads (t : Table) (s : Scale) (r : Reading) (x : ℤ) : Type 0 where
