@@ -27,41 +27,37 @@ use Rattle.labels.proofs.Labelled.{At as Stood, found, in-its-month}
 use Rattle.labels.proofs.Uniform.{reading-stands, reading-month, reading-micro}
 use Rattle.stamp.specs.declared.Scale.the-variants.{Utc}
 use Rattle.stamp.specs.declared.InstantAnswer.the-variants.{At}
-use Rattle.stamp.specs.Scales.{mostSecond}
-use Rattle.stamp.specs.Stamps.{instantFor, stampAt, instantShowing}
+use Rattle.stamp.specs.Scales.{mostSecond, instantFor}
+use Rattle.stamp.specs.Promise.{Reads}
 use Rattle.stamp.proofs.Scales.{steps, to-instant-is}
 use Rattle.julian.specs.declared.JulianDate.{JulianDate}
 use Rattle.julian.specs.declared.JulianAnswer.the-variants.{Dated}
-use Rattle.julian.specs.Dates.{writeJulian, readJulian}
-use Rattle.julian.specs.Promise.{InAddedSecond}
-use Rattle.julian.proofs.Dates.{Given, InYears, given-admitted, pair-read, showing, showing-written}
+use Rattle.julian.specs.Dates.{pairOf, writeJulian, readJulian}
+use Rattle.julian.proofs.Dates.{Given, InYears, given-admitted, shown-admitted, write-from, plain-back}
 
 -- a minute has 59 seconds at least
 minute-least : (days : ℕ) (x z : ℤ) (l : Label) → 59 ≤ lastMinute x z → 59 ≤ minuteIn days x z l
 unfolding minuteIn
 minute-least days x z l n = pick (λ (s : ℕ). 59 ≤ s) (inLastMinute days l) (λ e. n) (λ e. omega arith)
 
-module _ (t : Table) (x : ℤ) (p : JulianDate) (g : Given t 0 x p) (h : InAddedSecond t x) where
+module _ (t : Table) (x : ℤ) (p : JulianDate) (r : Reading) (g : Given t 0 x p r) (h : r .label .second ≡ 60) where
   abbrev o : Offsets
   o = offsetAt t
 
-  abbrev r : Reading
-  r = stampAt t Utc x .reading
-
   abbrev l : Label
-  l = stampAt t Utc x .reading .label
+  l = r .label
 
   abbrev m : ℕ
-  m = monthOf (stampAt t Utc x .reading .label)
+  m = monthOf (r .label)
 
   abbrev u : ℕ
-  u = microOf (stampAt t Utc x .reading)
+  u = microOf r
 
   st : Steps o
   st = steps t (accepted-to t (g .fine)) Utc
 
   ad : Admitted o (mostSecond Utc) r
-  ad = given-admitted t 0 x p g
+  ad = given-admitted t 0 x p r g
 
   -- the label's second of the axis
   stood : (s : ℕ) × Stood o l s
@@ -123,11 +119,14 @@ module _ (t : Table) (x : ℤ) (p : JulianDate) (g : Given t 0 x p) (h : InAdded
       eq-from i (x +ℤ pos 1000000)
       (omega (arith, step, sum-is x (pos 1000000), ap up e, ap down e, ap up a, ap down a, to-instant-is Utc (axisOf o r′), to-instant-is Utc (axisOf o r), axis-is (microOf r′) (o (monthOf (r′ .label))), axis-is u (o m), reading-micro u (in-years .0) (in-years .1)))
 
-  shown-later : instantShowing t Utc u ≡ At (x +ℤ pos 1000000)
-  shown-later = showing u in-years t Utc r′ refl has-second ∙ ap At later
+  later-reads : Reads t Utc r′ (x +ℤ pos 1000000)
+  later-reads = record { is-admitted = shown-admitted u in-years t Utc has-second; instant-is = later }
+
+  shows : microOf r′ ≡ u
+  shows = reading-micro u (in-years .0) (in-years .1)
 
   pub added-read : readJulian t 0 p ≡ At (x +ℤ pos 1000000)
-  added-read = subst (λ (q : JulianDate). readJulian t 0 q ≡ At (x +ℤ pos 1000000)) (g .pair-is) (pair-read u in-years t 0 (g .known) (g .fine) ∙ shown-later)
+  added-read = plain-back t 0 (x +ℤ pos 1000000) r′ later-reads (second-uniform (r′ .label) (there .exists)) p (g .known) (g .fine) (ap pairOf shows ∙ g .pair-is)
 
   pub added-write : writeJulian t (x +ℤ pos 1000000) 0 ≡ Dated p
-  added-write = showing-written u t 0 (x +ℤ pos 1000000) (g .known) (g .fine) shown-later ∙ ap Dated (g .pair-is)
+  added-write = write-from t 0 (g .known) (g .fine) r′ (x +ℤ pos 1000000) later-reads ∙ ap Dated (ap pairOf shows ∙ g .pair-is)

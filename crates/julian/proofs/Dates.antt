@@ -1,7 +1,7 @@
--- The pair that is written for an instant, and what a pair is read as: each undoes the other, but for an instant in an added second.
+-- The pair that is written for an instant, and what a pair is read as, each with the reading that stands for the instant.
 -- Assumes nothing.
 use mathlib.Core.Path.{_≡_, refl, sym, ap, subst, _∙_}
-use mathlib.Core.Bool.{true, _&&_}
+use mathlib.Core.Bool.{Bool, true, false, _&&_}
 use mathlib.Core.List.{[], _∷_, _++_}
 use Prim.Native.Nat.{ℕ, _/_, _%_, _≤_, _<_}
 use native.Mathlib.Omega.{arith}
@@ -11,13 +11,14 @@ use borrow.Author.Tests.{le-leb, leb-true}
 use Rattle.laws.proofs.Cases.{and-l, and-r, join}
 use Rattle.months.proofs.Laws.{length-most, days-most}
 use Rattle.answer.specs.declared.Refusal.{Refusal}
-use Rattle.answer.specs.declared.Refusal.the-variants.{Range as RANGE}
-use Rattle.answer.proofs.Orders.{passed, none-refused, was-passed, refusing-map, number-some}
+use Rattle.answer.specs.declared.Refusal.the-variants.{Range as RANGE, Ask as ASK, Table as TABLE}
+use Rattle.answer.specs.Refusals.{refusing}
+use Rattle.answer.proofs.Orders.{refused, none-refused, was-passed, refusing-map, number-some}
 use Rattle.leap.specs.declared.Table.{Table}
 use Rattle.leap.specs.Leap.{accepted}
 use Rattle.leap.proofs.Facts.{accepted-to}
 use Rattle.labels.specs.declared.Reading.{Reading}
-use Rattle.labels.specs.Labels.{Offsets, uniform, monthOf, hasSecond, labelTests, admitted}
+use Rattle.labels.specs.Labels.{Offsets, uniform, monthOf, hasSecond, admitted}
 use Rattle.labels.specs.Seconds.{secondOf, microOf, first, last, readingAt}
 use Rattle.labels.proofs.Facts.{second-to, second-yes}
 use Rattle.labels.proofs.Exists.{second-uniform}
@@ -29,16 +30,17 @@ use Rattle.stamp.specs.declared.Stamp.{Stamp}
 use Rattle.stamp.specs.declared.InstantAnswer.the-variants.{At, Refused as NoInstant}
 use Rattle.stamp.specs.declared.ShownAnswer.{ShownAnswer}
 use Rattle.stamp.specs.declared.ShownAnswer.the-variants.{Shows, Refused as NotShown}
-use Rattle.stamp.specs.Scales.{scaleOf, knownScale, scaleTests, offsetsOf, mostSecond}
-use Rattle.stamp.specs.Stamps.{instantFor, instantOf, inRange, stampAt, shownOf, showingTests, instantShowing}
-use Rattle.stamp.specs.Promise.{Reads, stamp}
+use Rattle.stamp.specs.Scales.{scaleOf, knownScale, scaleTests, offsetsOf, mostSecond, instantFor}
+use Rattle.stamp.specs.Back.{inRange, stampAt, shownOf, showingTests, instantShowing}
+use Rattle.stamp.specs.Promise.{Reads}
 use Rattle.stamp.proofs.Scales.{most-sixty}
-use Rattle.stamp.proofs.Promise.{back-reads, stamp-given, stamp-back}
+use Rattle.stamp.proofs.Promise.{back-reads, in-range-reads, reads-stamp}
 use Rattle.julian.specs.declared.JulianDate.{JulianDate}
 use Rattle.julian.specs.declared.JulianAnswer.{JulianAnswer}
 use Rattle.julian.specs.declared.JulianAnswer.the-variants.{Dated, Refused}
 use Rattle.julian.specs.Fraction.{day}
-use Rattle.julian.specs.Dates.{micros, pairOf, writeJulian, julianResults, pairTests, microRead, readJulian}
+use Rattle.julian.specs.Dates.{pairOf, writeJulian, julianResults, pairTests, microRead, readJulian}
+use Rattle.julian.specs.Promise.{IsPair, Stands}
 use Rattle.julian.proofs.Fraction.{comes-back, fraction-fine}
 use Rattle.julian.proofs.Midnight.{midnight-fine, day-back, years-fine}
 
@@ -51,7 +53,7 @@ dated (NotShown why) = Refused why
 
 pub written : (t : Table) (x : ℤ) (k : ℕ) → dated (shownOf t x k) ≡ writeJulian t x k
 unfolding shownOf writeJulian
-written t x k = refusing-map dated NotShown (scaleTests t k ++ (inRange t (scaleOf k) x, RANGE) ∷ []) (Shows (micros t x k))
+written t x k = refusing-map dated NotShown (scaleTests t k ++ (inRange t (scaleOf k) x, RANGE) ∷ []) (Shows (microOf (stampAt t (scaleOf k) x .reading)))
 
 -- from an answer's numbers back to the answer
 pub at-pair : (a : JulianAnswer) (p : JulianDate) → julianResults a ≡ (0, p) → a ≡ Dated p
@@ -64,14 +66,17 @@ no-pair p why e = let z : _≡_ {A = ℕ} 0 1 = cc in omega arith
 no-instant : (x : ℤ) (why : Refusal) → NoInstant why ≡ At x → ⊥
 no-instant x why e = let z : _≡_ {A = ℕ} 0 1 = cc in omega arith
 
--- what a pair that was written says
-pub record Given (t : Table) (k : ℕ) (x : ℤ) (p : JulianDate) : Type 0 where
+-- what a pair that was written says, by a reading that stands for the instant
+pub record Given (t : Table) (k : ℕ) (x : ℤ) (p : JulianDate) (r : Reading) : Type 0 where
   pub known : knownScale k ≡ true
   pub fine : accepted t ≡ true
-  pub reads : Reads t (scaleOf k) (stampAt t (scaleOf k) x .reading) x
-  pub pair-is : pairOf (micros t x k) ≡ p
+  pub reads : Reads t (scaleOf k) r x
+  pub pair-is : pairOf (microOf r) ≡ p
 
-pub write-given : (t : Table) (k : ℕ) (x : ℤ) (p : JulianDate) → writeJulian t x k ≡ Dated p → Given t k x p
+same-pair : {p q : JulianDate} → Dated q ≡ Dated p → q ≡ p
+same-pair e = cc
+
+pub write-given : (t : Table) (k : ℕ) (x : ℤ) (p : JulianDate) → writeJulian t x k ≡ Dated p → (r : Reading) × Given t k x p r
 unfolding writeJulian
 write-given t k x p e =
     let g = was-passed Refused (scaleTests t k ++ (inRange t (scaleOf k) x, RANGE) ∷ []) _ (Dated p) (no-pair p) e in
@@ -79,18 +84,35 @@ write-given t k x p e =
     let known : knownScale k ≡ true = search (and-l) in
     let fine : accepted t ≡ true = search (and-l, and-r) in
     let range : inRange t (scaleOf k) x ≡ true = search (and-l, and-r) in
-    record { known = known; fine = fine; reads = back-reads t (accepted-to t fine) (scaleOf k) x range; pair-is = same (g .1) }
-  where
-    same : {q : JulianDate} → Dated q ≡ Dated p → q ≡ p
-    same e = cc
+    (stampAt t (scaleOf k) x .reading, record { known = known; fine = fine; reads = back-reads t (accepted-to t fine) (scaleOf k) x range; pair-is = same-pair (g .1) })
 
--- an instant that a reading has is written as the pair of what the reading shows
-pub reading-written : (t : Table) (k : ℕ) (r : Reading) (x : ℤ) → instantOf t k r ≡ At x → writeJulian t x k ≡ Dated (pairOf (microOf r))
+-- an instant that a reading stands for is written as the pair of what the reading shows
+pub write-from : (t : Table) (k : ℕ) → knownScale k ≡ true → accepted t ≡ true → (r : Reading) (x : ℤ) → Reads t (scaleOf k) r x → writeJulian t x k ≡ Dated (pairOf (microOf r))
 unfolding writeJulian
-reading-written t k r x e =
-    let g = stamp-given t k x (stamp (scaleOf k) r) (stamp-back t k r x e) in
-    none-refused Refused (scaleTests t k ++ (inRange t (scaleOf k) x, RANGE) ∷ []) _ (join (g .0) (join (g .1 .0) (join (g .1 .1 .0) refl)))
-    ∙ ap (λ (z : Stamp). Dated (pairOf (microOf (z .reading)))) (g .1 .1 .1)
+write-from t k known fine r x b =
+    none-refused Refused (scaleTests t k ++ (inRange t (scaleOf k) x, RANGE) ∷ []) _ (join known (join fine (join (in-range-reads t fine (scaleOf k) x .1 (r, b)) refl)))
+    ∙ ap (λ (z : Stamp). Dated (pairOf (microOf (z .reading)))) (reads-stamp t fine (scaleOf k) r x b)
+
+-- whichever reading it is
+pub given-by : (t : Table) (k : ℕ) (x : ℤ) (p : JulianDate) → writeJulian t x k ≡ Dated p → (r : Reading) → Reads t (scaleOf k) r x → Given t k x p r
+given-by t k x p e r b =
+    let g = write-given t k x p e .1 in
+    record { known = g .known; fine = g .fine; reads = b; pair-is = same-pair (sym (write-from t k (g .known) (g .fine) r x b) ∙ e) }
+
+-- RANGE: scale and table pass, and the instant is not in range
+pub range-given : (t : Table) (k : ℕ) (x : ℤ) → julianResults (writeJulian t x k) .0 ≡ 7 → (knownScale k ≡ true) × ((accepted t ≡ true) × (inRange t (scaleOf k) x ≡ false))
+unfolding writeJulian
+range-given t k x e = go (knownScale k) (accepted t) (inRange t (scaleOf k) x) e
+  where
+    go : (a b c : Bool) → julianResults (refusing Refused ((a, ASK) ∷ (b, TABLE) ∷ (c, RANGE) ∷ []) (Dated (pairOf (microOf (stampAt t (scaleOf k) x .reading))))) .0 ≡ 7 → (a ≡ true) × ((b ≡ true) × (c ≡ false))
+    go true true false e = (refl, (refl, refl))
+    go true true true e = absurd (omega arith)
+    go true false c e = absurd (omega arith)
+    go false b c e = absurd (omega arith)
+
+pub range-from : (t : Table) (k : ℕ) → knownScale k ≡ true → accepted t ≡ true → (x : ℤ) → inRange t (scaleOf k) x ≡ false → writeJulian t x k ≡ Refused RANGE
+unfolding writeJulian
+range-from t k known fine x e = none-refused Refused (scaleTests t k) _ (join known (join fine refl)) ∙ sym (refused _ _ e)
 
 -- ---- a microsecond that a scale is to show
 
@@ -106,30 +128,24 @@ module _ (u : ℕ) where
   years-from : InYears u → (leb (microOf first) u && leb u (microOf last)) ≡ true
   years-from y = join (le-leb (microOf first) u (omega (arith, first-micro))) (le-leb u (microOf last) (omega (arith, last-micro)))
 
-  -- its pair is read as the instant at which it is shown
-  pub pair-read : InYears u → (t : Table) (k : ℕ) → knownScale k ≡ true → accepted t ≡ true → readJulian t k (pairOf u) ≡ instantShowing t (scaleOf k) u
-  unfolding readJulian microRead
-  pair-read y t k known fine =
-      let back : u ≡ microRead (pairOf u) = omega (arith, day-back (u / day) (omega arith) (omega arith), comes-back (u % day) (omega arith)) in
-      sym
-      (passed _ known
-      (passed _ fine
-      (passed _ (midnight-fine (u / day) (omega arith) (omega arith))
-      (passed _ (fraction-fine (u % day) (omega arith))
-      (passed _ (years-fine (u / day) (omega arith) (omega arith))
-      (ap (instantShowing t (scaleOf k)) back))))))
+  -- its pair is one, and stands for it
+  pub pair-fine : InYears u → IsPair (pairOf u)
+  pair-fine y =
+      record {
+        is-midnight = midnight-fine (u / day) (omega arith) (omega arith);
+        is-fraction = fraction-fine (u % day) (omega arith);
+        in-years = years-fine (u / day) (omega arith) (omega arith);
+      }
 
-  -- that of its reading without a second 60, which the scale has
-  pub showing : InYears u → (t : Table) (s : Scale) (r : Reading) → readingAt uniform u ≡ r → hasSecond (offsetsOf t s) (r .label) ≡ true → instantShowing t s u ≡ At (instantFor t s r)
-  unfolding instantShowing
-  showing y t s r e h =
-      none-refused NoInstant (showingTests t s u) _ (join (years-from y) (join (subst (λ (r : Reading). hasSecond (offsetsOf t s) (r .label) ≡ true) (sym e) h) refl))
-      ∙ ap (λ (r : Reading). At (instantFor t s r)) e
+  pub pair-back : InYears u → u ≡ microRead (pairOf u)
+  unfolding microRead
+  pair-back y = omega (arith, day-back (u / day) (omega arith) (omega arith), comes-back (u % day) (omega arith))
 
   abbrev r : Reading
   r = readingAt uniform u
 
-  shown-admitted : InYears u → (t : Table) (s : Scale) → hasSecond (offsetsOf t s) (r .label) ≡ true → admitted (offsetsOf t s) (mostSecond s) r ≡ true
+  -- its reading without a second 60, if the scale has that
+  pub shown-admitted : InYears u → (t : Table) (s : Scale) → hasSecond (offsetsOf t s) (r .label) ≡ true → admitted (offsetsOf t s) (mostSecond s) r ≡ true
   shown-admitted y t s h =
       let a = reading-stands u (y .0) (y .1) in
       let e = a .exists in
@@ -141,59 +157,73 @@ module _ (u : ℕ) where
         on-clock = record { hour-high = e .hour-high; minute-high = e .minute-high; second-most = omega (arith, second-uniform (r .label) e, most-sixty s); micro-high = omega arith };
       })
 
-  -- the instant at which it is shown is written as its pair
-  pub showing-written : (t : Table) (k : ℕ) (x : ℤ) → knownScale k ≡ true → accepted t ≡ true → instantShowing t (scaleOf k) u ≡ At x → writeJulian t x k ≡ Dated (pairOf u)
-  unfolding instantShowing instantOf
-  showing-written t k x known fine e =
-      let s = scaleOf k in
-      let g = was-passed NoInstant (showingTests t s u) _ (At x) (no-instant x) e in
-      let both = g .0 in
-      let y = years-to (and-l _ (hasSecond (offsetsOf t s) (r .label) && true) both) in
-      let second : hasSecond (offsetsOf t s) (r .label) ≡ true = search (and-l, and-r) in
-      reading-written t k r x
-      (none-refused NoInstant (scaleTests t k) _ (join known (join fine refl))
-      ∙ none-refused NoInstant (labelTests (offsetsOf t s) (mostSecond s) r) _ (shown-admitted y t s second)
-      ∙ g .1)
-      ∙ ap (λ (n : ℕ). Dated (pairOf n)) (reading-micro u (y .0) (y .1))
+-- ---- what a pair is read as
 
--- ---- a pair and back
-
--- a pair that is read as an instant
-pub nearest-written : (t : Table) (k : ℕ) (x : ℤ) (p : JulianDate) → readJulian t k p ≡ At x → writeJulian t x k ≡ Dated (pairOf (microRead p))
-unfolding readJulian
-nearest-written t k x p e =
-    let g = was-passed NoInstant (scaleTests t k ++ pairTests p) (instantShowing t (scaleOf k) (microRead p)) (At x) (no-instant x) e in
+-- a reading without a second 60 that shows the pair's microsecond
+pub read-given : (t : Table) (k : ℕ) (p : JulianDate) (x : ℤ) → readJulian t k p ≡ At x → (knownScale k ≡ true) × (accepted t ≡ true) × IsPair p × Stands t k p x
+unfolding readJulian instantShowing
+read-given t k p x e =
+    let s = scaleOf k in
+    let u = microRead p in
+    let g = was-passed NoInstant (scaleTests t k ++ pairTests p) (instantShowing t s u) (At x) (no-instant x) e in
+    let f = was-passed NoInstant (showingTests t s u) _ (At x) (no-instant x) (g .1) in
     let all = g .0 in
-    showing-written (microRead p) t k x (search (and-l)) (search (and-l, and-r)) (g .1)
+    let both = f .0 in
+    let y = years-to u (and-l _ (hasSecond (offsetsOf t s) (readingAt uniform u .label) && true) both) in
+    let second : hasSecond (offsetsOf t s) (readingAt uniform u .label) ≡ true = search (and-l, and-r) in (
+      search (and-l),
+      search (and-l, and-r),
+      record { is-midnight = search (and-l, and-r); is-fraction = search (and-l, and-r); in-years = search (and-l, and-r) },
+      record {
+        reading = readingAt uniform u;
+        reads = record { is-admitted = shown-admitted u y t s second; instant-is = same-instant (f .1) };
+        not-added = second-uniform (readingAt uniform u .label) (reading-stands u (y .0) (y .1) .exists);
+        shows = reading-micro u (y .0) (y .1);
+      },
+    )
+  where
+    same-instant : {y : ℤ} → At y ≡ At x → y ≡ x
+    same-instant q = cc
 
--- an instant and back
-module _ (t : Table) (k : ℕ) (x : ℤ) (p : JulianDate) (g : Given t k x p) where
+module _ (t : Table) (k : ℕ) (x : ℤ) (r : Reading) (b : Reads t (scaleOf k) r x) (h : r .label .second ≤ 59) where
   abbrev o : Offsets
   o = offsetsOf t (scaleOf k)
 
-  abbrev shown : Reading
-  shown = stampAt t (scaleOf k) x .reading
+  ad : Admitted o (mostSecond (scaleOf k)) r
+  ad = admitted-to o (mostSecond (scaleOf k)) r (b .is-admitted)
 
-  pub given-admitted : Admitted (offsetsOf t (scaleOf k)) (mostSecond (scaleOf k)) (stampAt t (scaleOf k) x .reading)
-  given-admitted = admitted-to o (mostSecond (scaleOf k)) shown (g .reads .is-admitted)
+  -- it stands on days of 86,400 seconds too
+  flat : Stood uniform (r .label) (secondOf (r .label))
+  flat = record { since-1972 = ad .since-1972; until-9999 = ad .until-9999; exists = exists-flat o (r .label) (ad .exists) h; stands = refl }
+
+  pub plain-years : InYears (microOf r)
+  plain-years = micro-range r flat (ad .on-clock .micro-high)
+
+  pub read-from : (p : JulianDate) → knownScale k ≡ true → accepted t ≡ true → IsPair p → microOf r ≡ microRead p → readJulian t k p ≡ At x
+  unfolding readJulian instantShowing
+  read-from p known fine i e =
+      let back : readingAt uniform (microOf r) ≡ r = reading-back r flat (ad .on-clock .micro-high) in
+      let second : hasSecond o (r .label) ≡ true = second-yes o (r .label) refl (ad .exists .second-high) in
+      none-refused NoInstant (scaleTests t k ++ pairTests p) _ (join known (join fine (join (i .is-midnight) (join (i .is-fraction) (join (i .in-years) refl)))))
+      ∙ ap (instantShowing t (scaleOf k)) (sym e)
+      ∙ none-refused NoInstant (showingTests t (scaleOf k) (microOf r)) _ (join (years-from (microOf r) plain-years) (join (subst (λ (z : Reading). hasSecond o (z .label) ≡ true) (sym back) second) refl))
+      ∙ ap (λ (z : Reading). At (instantFor t (scaleOf k) z)) back
+      ∙ ap At (b .instant-is)
+
+  -- and so its own pair comes back
+  pub plain-back : (p : JulianDate) → knownScale k ≡ true → accepted t ≡ true → pairOf (microOf r) ≡ p → readJulian t k p ≡ At x
+  plain-back p known fine e = subst (λ (q : JulianDate). readJulian t k q ≡ At x) e (read-from (pairOf (microOf r)) known fine (pair-fine (microOf r) plain-years) (pair-back (microOf r) plain-years))
+
+module _ (t : Table) (k : ℕ) (x : ℤ) (p : JulianDate) (r : Reading) (g : Given t k x p r) where
+  pub given-admitted : Admitted (offsetsOf t (scaleOf k)) (mostSecond (scaleOf k)) r
+  given-admitted = admitted-to (offsetsOf t (scaleOf k)) (mostSecond (scaleOf k)) r (g .reads .is-admitted)
 
   -- its microsecond is far below what a double can count
-  pub given-few : micros t x k < 400000000000000000
+  pub given-few : microOf r < 400000000000000000
   unfolding secondOf
   given-few =
       let a = given-admitted in
       let e = a .exists in
       let c = a .on-clock in
-      let m = monthOf (shown .label) in
+      let m = monthOf (r .label) in
       omega (arith, a .until-9999, e .month-high, e .day-high, e .hour-high, e .minute-high, c .second-most, c .micro-high, most-sixty (scaleOf k), length-most m, days-most m)
-
-  pub plain-back : stampAt t (scaleOf k) x .reading .label .second ≤ 59 → readJulian t k p ≡ At x
-  plain-back h =
-      let a = given-admitted in
-      let c = a .on-clock .micro-high in
-      let f : Stood uniform (shown .label) (secondOf (shown .label)) = record { since-1972 = a .since-1972; until-9999 = a .until-9999; exists = exists-flat o (shown .label) (a .exists) h; stands = refl } in
-      let y = micro-range shown f c in
-      subst (λ (q : JulianDate). readJulian t k q ≡ At x) (g .pair-is)
-      (pair-read (microOf shown) y t k (g .known) (g .fine)
-      ∙ showing (microOf shown) y t (scaleOf k) shown (reading-back shown f c) (second-yes o (shown .label) refl (a .exists .second-high))
-      ∙ ap At (g .reads .instant-is))

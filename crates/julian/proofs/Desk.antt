@@ -4,8 +4,6 @@ use mathlib.Core.Path.{_≡_, refl, ap}
 use Prim.Native.Nat.{ℕ, _+_}
 use lib.IntN.{pos}
 use lib.Ieee.{ofBits, ofInt, div, add, lt, eq, le}
-use Rattle.laws.proofs.Cases.{join}
-use Rattle.answer.proofs.Orders.{none-refused}
 use Rattle.months.specs.Months.{leapYear, monthLength, daysBefore}
 use Rattle.leap.specs.Leap.{bulletinC}
 use Rattle.leap.proofs.BulletinC.{bulletin-accepted}
@@ -13,28 +11,28 @@ use Rattle.labels.specs.declared.Reading.{Reading}
 use Rattle.labels.specs.Labels.{at, lastMinute, minuteIn, realYear, realMonth, realDay, realClock, hasSecond}
 use Rattle.labels.specs.Seconds.{secondOf, axisAt}
 use Rattle.labels.proofs.Years.{days-last}
-use Rattle.stamp.specs.declared.InstantAnswer.the-variants.{At, Refused}
-use Rattle.stamp.specs.Scales.{scaleTests, toInstant}
-use Rattle.stamp.specs.Stamps.{instantOf}
+use Rattle.stamp.specs.declared.Scale.the-variants.{Tai}
+use Rattle.stamp.specs.Scales.{toInstant}
+use Rattle.stamp.specs.Promise.{Reads}
 use Rattle.julian.specs.Fraction.{fractionOf, isFraction, microsOf}
 use Rattle.julian.specs.Midnight.{midnightOf, isMidnight}
 use Rattle.julian.specs.Dates.{julianResults}
 use Rattle.julian.specs.Desk.{Desk}
-use Rattle.julian.proofs.Dates.{reading-written}
+use Rattle.julian.proofs.Dates.{write-from}
 
 noon : Reading
 noon = at 2000 1 1 12 0 0 0
 
 -- its instant is 0
-noon-read : instantOf bulletinC 1 noon ≡ At (pos 0)
-unfolding noon leapYear monthLength daysBefore lastMinute minuteIn realYear realMonth realDay realClock hasSecond secondOf axisAt toInstant instantOf
-noon-read = none-refused Refused (scaleTests bulletinC 1) (At (pos 0)) (join refl (join bulletin-accepted refl))
+noon-reads : Reads bulletinC Tai noon (pos 0)
+unfolding noon leapYear monthLength daysBefore lastMinute minuteIn realYear realMonth realDay realClock hasSecond secondOf axisAt toInstant
+noon-reads = record { is-admitted = refl; instant-is = refl }
 
 pub desk : Desk
 unfolding noon leapYear monthLength daysBefore secondOf fractionOf midnightOf isFraction isMidnight microsOf ofBits ofInt div add lt eq le
 desk =
     record {
-      julian-row = ap julianResults (reading-written bulletinC 1 noon (pos 0) noon-read);
+      julian-row = ap julianResults (write-from bulletinC 1 refl bulletin-accepted noon (pos 0) noon-reads);
       midnight-zero = refl;
       first-midnight = refl;
       last-midnight = ap (λ (d : ℕ). midnightOf (d + 30)) days-last;

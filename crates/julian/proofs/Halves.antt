@@ -14,6 +14,7 @@ use lib.Ieee.Positive.{num, den, den-pos}
 use borrow.Author.Tests.{eqb-true, eqb-false, eq-eqb, ne-eqb}
 use Rattle.laws.proofs.Cases.{by-test}
 use Rattle.julian.specs.Midnight.{isMidnight}
+use Rattle.julian.proofs.Midnight.{midnight-is}
 use Rattle.julian.proofs.Pattern.{Read, pattern, by-digits}
 
 same-test : (a b c d : ℕ) → (a ≡ b → c ≡ d) → (c ≡ d → a ≡ b) → eqb a b ≡ eqb c d
@@ -33,10 +34,10 @@ halved : (n d a c : ℕ) → 0 < d → n * c ≡ a * d → n * 2 ≡ d → a * 2
 halved n d a c D v h = eq-of-mul-eq-mul-right d D (a * 2) c (mul-right-comm a 2 d ∙ ap (λ (z : ℕ). z * 2) (sym v) ∙ mul-right-comm n c 2 ∙ ap (λ (z : ℕ). z * c) h ∙ mul-comm d c)
 
 by-value : (v : Float) (a c : ℕ) → 0 < c → num v * c ≡ a * den v → eqb (a % c * 2) c ≡ isMidnight v
-unfolding isMidnight
 by-value v a c C e =
     let r : num v % den v * c ≡ a % c * den v = rests (num v) (den v) a c (den-pos v) C e in
     same-test (a % c * 2) c (num v % den v * 2) (den v) (halved (a % c) c (num v % den v) (den v) C (sym r)) (halved (num v % den v) (den v) (a % c) c (den-pos v) r)
+    ∙ midnight-is v
 
 small-rest : (a h c : ℕ) → h * 2 ≡ c → a < h → a % c * 2 ≡ c → ⊥
 small-rest a h c e l d = omega (arith, mod-le a c)

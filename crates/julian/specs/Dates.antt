@@ -1,5 +1,4 @@
--- The pair of doubles that is written for an instant, and the instant that a pair is read as. Between them stands the microsecond that the scale shows,
--- counted from year 0 on days of 86,400 seconds, on UTC too: 23:59:60 shows the next day's first second.
+-- The pair of doubles that is written for an instant, and the instant that a pair is read as: the calls. `Pairs` of Promise says exactly when each is given.
 -- Assumes nothing.
 use mathlib.Core.Bool.{Bool, false}
 use mathlib.Core.List.{List, [], _∷_, _++_}
@@ -11,11 +10,10 @@ use Rattle.answer.specs.declared.Refusal.the-variants.{Number as NUMBER, Range 
 use Rattle.answer.specs.Refusals.{number, refusing}
 use Rattle.leap.specs.declared.Table.{Table}
 use Rattle.labels.specs.Seconds.{microOf}
-use Rattle.stamp.specs.declared.Scale.{Scale}
 use Rattle.stamp.specs.declared.InstantAnswer.{InstantAnswer}
 use Rattle.stamp.specs.declared.InstantAnswer.the-variants.{Refused as NoInstant}
 use Rattle.stamp.specs.Scales.{scaleOf, scaleTests}
-use Rattle.stamp.specs.Stamps.{inRange, stampAt, instantShowing}
+use Rattle.stamp.specs.Back.{inRange, stampAt, instantShowing}
 use Rattle.julian.specs.declared.JulianDate.{JulianDate}
 use Rattle.julian.specs.declared.JulianAnswer.{JulianAnswer}
 use Rattle.julian.specs.declared.JulianAnswer.the-variants.{Dated, Refused}
@@ -24,17 +22,13 @@ use Rattle.julian.specs.Midnight.{midnightOf, isMidnight, inYears, dayNu
 
 -- ---- written
 
--- the microsecond that scale k shows at an instant
-abbrev pub micros : Table → ℤ → ℕ → ℕ
-micros t x k = microOf (stampAt t (scaleOf k) x .reading)
-
 -- the pair of a microsecond
 abbrev pub pairOf : ℕ → JulianDate
 pairOf u = record { midnight = midnightOf (u / day); fraction = fractionOf (u % day) }
 
--- `write_julian`
+-- `write_julian`; `stampAt` is the way back, which need not be believed
 unfoldable pub writeJulian : Table → ℤ → ℕ → JulianAnswer
-writeJulian t x k = refusing Refused (scaleTests t k ++ (inRange t (scaleOf k) x, RANGE) ∷ []) (Dated (pairOf (micros t x k)))
+writeJulian t x k = refusing Refused (scaleTests t k ++ (inRange t (scaleOf k) x, RANGE) ∷ []) (Dated (pairOf (microOf (stampAt t (scaleOf k) x .reading))))
 
 -- an answer in the scope's numbers: that of the refusal, 0 on success, and the pair, both zero on a refusal
 abbrev pub julianResults : JulianAnswer → ℕ × JulianDate
@@ -51,10 +45,6 @@ pairTests p = (isMidnight (p .midnight), NUMBER) ∷ (isFraction (p .fraction), 
 unfoldable pub microRead : JulianDate → ℕ
 microRead p = day * dayNumber (p .midnight) + microsOf (p .fraction)
 
--- after rounding, RANGE again and NOSECOND: they are asked of what the scale is to show
-abbrev pub readIn : Table → Scale → JulianDate → InstantAnswer
-readIn t s p = refusing NoInstant (pairTests p) (instantShowing t s (microRead p))
-
--- `read_julian`
+-- `read_julian`; after rounding, RANGE again and NOSECOND: they are asked of what the scale is to show, by `instantShowing`
 unfoldable pub readJulian : Table → ℕ → JulianDate → InstantAnswer
-readJulian t k p = refusing NoInstant (scaleTests t k) (readIn t (scaleOf k) p)
+readJulian t k p = refusing NoInstant (scaleTests t k ++ pairTests p) (instantShowing t (scaleOf k) (microRead p))

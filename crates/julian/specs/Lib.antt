@@ -1,5 +1,6 @@
 pub mod Fraction
 pub mod Midnight
 pub mod Dates
+pub mod Parts
 pub mod Promise
 pub mod Desk

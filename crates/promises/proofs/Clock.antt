@@ -20,10 +20,10 @@ use Rattle.labels.proofs.Uniform.{first-micro}
 use Rattle.stamp.specs.declared.Scale.the-variants.{Utc}
 use Rattle.stamp.specs.declared.InstantAnswer.the-variants.{At, Refused}
 use Rattle.stamp.specs.Scales.{scaleTests, toInstant}
-use Rattle.stamp.specs.Stamps.{instantFor, instantOf, instantResults}
+use Rattle.stamp.specs.Stamps.{instantFor, instantOf, instantResults, stampResults}
 use Rattle.stamp.specs.Promise.{GivesInstant}
 use Rattle.stamp.proofs.Scales.{to-instant-is}
-use Rattle.stamp.proofs.Promise.{undo}
+use Rattle.stamp.proofs.Promise.{at-instant, stamp-back}
 use Rattle.clock.specs.Promise.{Shows}
 use Rattle.clock.proofs.Promise.{all-tick}
 use Rattle.promises.specs.Clock.{secondsOn, Demand3}
@@ -48,4 +48,4 @@ module _ (t : Table) (ok : accepted t ≡ true) (n : ℕ) (l : Label) (e : Shows
 
 pub demand3 : Demand3
 demand3 t ok =
-    record { ticking = all-tick t ok; is-converted = λ n l e. undo t 0 .comes-back-as-the-reading (whole l) (secondsOn n) (back t ok n l e); converts-back = back t ok }
+    record { ticking = all-tick t ok; is-converted = λ n l e. ap stampResults (stamp-back t 0 (whole l) (secondsOn n) (at-instant _ (secondsOn n) (back t ok n l e))); converts-back = back t ok }

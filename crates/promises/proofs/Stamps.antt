@@ -1,7 +1,7 @@
 -- Stamps and instants, from the theorem of the crate `stamp`.
 -- Assumes nothing.
-use Rattle.stamp.proofs.Promise.{undo}
+use Rattle.stamp.proofs.Promise.{converts}
 use Rattle.promises.specs.Stamps.{StampsAndInstants}
 
 pub stamps-and-instants : StampsAndInstants
-stamps-and-instants = undo
+stamps-and-instants = converts

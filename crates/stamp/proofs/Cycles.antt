@@ -10,8 +10,7 @@ use Rattle.labels.specs.declared.Reading.{Reading}
 use Rattle.labels.specs.Labels.{monthOf}
 use Rattle.labels.specs.Seconds.{timeOfDay, secondOf, axisAt}
 use Rattle.stamp.specs.declared.Scale.{Scale}
-use Rattle.stamp.specs.Scales.{offsetsOf, toInstant}
-use Rattle.stamp.specs.Stamps.{instantFor}
+use Rattle.stamp.specs.Scales.{offsetsOf, toInstant, instantFor}
 
 abbrev pub quickInstant : Table → Scale → Reading → ℤ
 quickInstant t s r =

@@ -30,7 +30,8 @@ use Rattle.stamp.specs.declared.StampAnswer.the-variants.{Stamped, Refus
 use Rattle.stamp.specs.declared.ShownAnswer.{ShownAnswer}
 use Rattle.stamp.specs.declared.ShownAnswer.the-variants.{Shows, Refused as NotShown}
 use Rattle.stamp.specs.Scales.{scaleOf, scaleTests, offsetsOf}
-use Rattle.stamp.specs.Stamps.{inRange, axisCount, stampAt, stampOf, shownOf}
+use Rattle.stamp.specs.Back.{inRange, axisCount, stampAt, shownOf}
+use Rattle.stamp.specs.Stamps.{stampOf}
 use Rattle.stamp.specs.Parts.{momentAt, momentOf}
 use Rattle.stamp.proofs.Scales.{steps}
 use Rattle.stamp.proofs.Ranges.{count-in-years}

@@ -16,7 +16,7 @@ use Rattle.labels.specs.Seconds.{inYears}
 use Rattle.labels.proofs.Years.{Between, years-to}
 use Rattle.stamp.specs.declared.Scale.{Scale}
 use Rattle.stamp.specs.Scales.{fixed, offsetsOf, toAxis}
-use Rattle.stamp.specs.Stamps.{inRange, axisCount}
+use Rattle.stamp.specs.Back.{inRange, axisCount}
 use Rattle.stamp.proofs.Scales.{steps, fixed-small, to-axis-is}
 
 -- near 2000 the axis is a count, and a small one

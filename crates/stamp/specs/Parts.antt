@@ -13,7 +13,7 @@ use Rattle.stamp.specs.declared.Moment.{Moment}
 use Rattle.stamp.specs.declared.MomentAnswer.{MomentAnswer}
 use Rattle.stamp.specs.declared.MomentAnswer.the-variants.{In, Refused as Nowhere}
 use Rattle.stamp.specs.Scales.{scaleOf, scaleTests, offsetsOf}
-use Rattle.stamp.specs.Stamps.{inRange, axisCount}
+use Rattle.stamp.specs.Back.{inRange, axisCount}
 
 -- a scale's offset in January 1972, under every accepted table
 abbrev pub firstOffset : Scale → ℤ

@@ -1,17 +1,19 @@
--- What is promised of stamps and instants: the stamp of an instant undoes the instant of a stamp. So the way back, which text and Julian dates build on and
--- which the clock is held against, is fixed by the way there, and need not be believed.
+-- What is promised of stamps and instants: what each is given, and exactly when, both ways. It is said by the way from a reading to its instant alone, so
+-- the way back, which text and Julian dates build on, is fixed by it and need not be believed.
 -- Assumes nothing.
 use mathlib.Core.Path.{_≡_}
+use mathlib.Core.Logic.{_↔_}
 use mathlib.Core.Bool.{true}
-use Prim.Native.Nat.{ℕ}
+use Prim.Native.Nat.{ℕ, _≤_}
 use lib.IntN.{ℤ}
 use Rattle.leap.specs.declared.Table.{Table}
+use Rattle.leap.specs.Leap.{accepted}
 use Rattle.labels.specs.declared.Reading.{Reading}
 use Rattle.labels.specs.Labels.{admitted}
 use Rattle.stamp.specs.declared.Scale.{Scale}
 use Rattle.stamp.specs.declared.Stamp.{Stamp}
-use Rattle.stamp.specs.Scales.{scaleOf, offsetsOf, mostSecond}
-use Rattle.stamp.specs.Stamps.{instantFor, instantOf, instantResults, stampOf, stampResults}
+use Rattle.stamp.specs.Scales.{scaleOf, offsetsOf, mostSecond, instantFor}
+use Rattle.stamp.specs.Stamps.{instantOf, instantResults, stampOf, stampResults}
 
 -- on scale s the reading r, admitted, stands for the instant x
 pub record Reads (t : Table) (s : Scale) (r : Reading) (x : ℤ) : Type 0 where
@@ -28,9 +30,11 @@ GivesInstant t k r x = instantResults (instantOf t k r) ≡ (0, x)
 abbrev pub GivesStamp : Table → ℕ → ℤ → Stamp → Type 0
 GivesStamp t k x z = stampResults (stampOf t x k) ≡ (0, z)
 
-pub record Undo (t : Table) (k : ℕ) : Type 0 where
-  pub is-that-of-the-reading : (r : Reading) (x : ℤ) → GivesInstant t k r x → Reads t (scaleOf k) r x
-  pub comes-back-as-the-reading : (r : Reading) (x : ℤ) → GivesInstant t k r x → GivesStamp t k x (stamp (scaleOf k) r)
-  pub comes-back-as-the-instant : (x : ℤ) (z : Stamp) → GivesStamp t k x z → (z .scale ≡ scaleOf k) × GivesInstant t k (z .reading) x
-  -- RANGE, 7, is for instants that no reading has
-  pub out-of-range : (x : ℤ) → stampResults (stampOf t x k) .0 ≡ 7 → (r : Reading) → GivesInstant t k r x → ⊥
+-- for each table and scale number
+pub record Converts (t : Table) (k : ℕ) : Type 0 where
+  -- a reading is given the instant x exactly when the scale is known, the table as described, and the reading admitted and standing for x
+  pub instant-exactly : (r : Reading) (x : ℤ) → GivesInstant t k r x ↔ ((k ≤ 3) × (accepted t ≡ true) × Reads t (scaleOf k) r x)
+  -- an instant is given the stamp z exactly when z is of that scale and its reading stands for the instant
+  pub stamp-exactly : (x : ℤ) (z : Stamp) → GivesStamp t k x z ↔ ((k ≤ 3) × (accepted t ≡ true) × (z .scale ≡ scaleOf k) × Reads t (scaleOf k) (z .reading) x)
+  -- RANGE, 7, is given exactly when no reading stands for the instant
+  pub out-of-range : (x : ℤ) → (stampResults (stampOf t x k) .0 ≡ 7) ↔ ((k ≤ 3) × (accepted t ≡ true) × ((r : Reading) → Reads t (scaleOf k) r x → ⊥))

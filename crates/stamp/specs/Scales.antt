@@ -10,7 +10,9 @@ use Rattle.answer.specs.declared.Refusal.the-variants.{Ask as ASK, Table as TAB
 use Rattle.answer.specs.Refusals.{refusing}
 use Rattle.leap.specs.declared.Table.{Table}
 use Rattle.leap.specs.Leap.{accepted, offsetAt}
+use Rattle.labels.specs.declared.Reading.{Reading}
 use Rattle.labels.specs.Labels.{Offsets, uniform}
+use Rattle.labels.specs.Seconds.{axisOf}
 use Rattle.stamp.specs.declared.Scale.{Scale}
 use Rattle.stamp.specs.declared.Scale.the-variants.{Utc, Tai, Tdt, Gps}
 use Rattle.stamp.specs.declared.ScaleAnswer.{ScaleAnswer}
@@ -67,5 +69,10 @@ fixed Gps = negsuc 18999999
 unfoldable pub toInstant : Scale → ℤ → ℤ
 toInstant s a = (a -ℤ pos 63113947200000000) -ℤ fixed s
 
+-- the instant that a reading stands for
+abbrev pub instantFor : Table → Scale → Reading → ℤ
+instantFor t s r = toInstant s (axisOf (offsetsOf t s) r)
+
+-- the way back
 unfoldable pub toAxis : Scale → ℤ → ℤ
 toAxis s x = (x +ℤ fixed s) +ℤ pos 63113947200000000

@@ -9,7 +9,7 @@ use lib.Dec.{T}
 use Rattle.laws.proofs.Branches.{fails, holds}
 use Rattle.answer.proofs.Orders.{refused, passed}
 use Rattle.leap.specs.Leap.{tabled}
-use Rattle.stamp.specs.Stamps.{instantShowing}
+use Rattle.stamp.specs.Back.{instantShowing}
 use Rattle.julian.specs.Fraction.{day, isFraction}
 use Rattle.julian.specs.Midnight.{isMidnight, inYears}
 use Rattle.julian.specs.Dates.{microRead}

@@ -3,7 +3,8 @@ use borrow.Author.Needs.{needs}
 use Rattle.stamp.specs.declared.InstantAnswer.the-variants.{Refused}
 use Rattle.stamp.specs.declared.ScaleAnswer.{ScaleAnswer}
 use Rattle.stamp.proofs.First.{onScale, then-asked}
-use Rattle.julian.specs.Dates.{readIn, readJulian}
+use Rattle.julian.specs.Dates.{readJulian}
+use Rattle.julian.specs.Parts.{readIn}
 use Rattle.julian.proofs.read_julian.Statement.{statement}
 use Rattle.julian.proofs.read_julian.Tie as tie
 

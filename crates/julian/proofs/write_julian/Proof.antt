@@ -3,7 +3,7 @@ use borrow.Author.Needs.{needs}
 use lib.IntN.{ℤ}
 use Rattle.laws.proofs.Machine.{read1}
 use Rattle.stamp.specs.declared.ShownAnswer.{ShownAnswer}
-use Rattle.stamp.specs.Stamps.{shownOf}
+use Rattle.stamp.specs.Back.{shownOf}
 use Rattle.julian.specs.declared.JulianAnswer.the-variants.{Dated}
 use Rattle.julian.specs.Dates.{writeJulian}
 use Rattle.julian.proofs.Dates.{dated, written}

@@ -16,7 +16,7 @@ use Rattle.leap.specs.Leap.{tabled}
 use Rattle.leap.proofs.Facts.{Accepted, accepted-to}
 use Rattle.labels.specs.Seconds.{inYears}
 use Rattle.stamp.specs.Scales.{offsetsOf, toAxis}
-use Rattle.stamp.specs.Stamps.{inRange, axisCount}
+use Rattle.stamp.specs.Back.{inRange, axisCount}
 use Rattle.stamp.proofs.Ranges.{too-early, too-late, near-axis, near-count}
 use Rattle.stamp.proofs.in_range.Statement.{statement}
 use Rattle.stamp.proofs.in_range.Tie as tie

@@ -13,8 +13,8 @@ use Rattle.labels.specs.declared.Month.{Month}
 use Rattle.labels.specs.Labels.{judged, hasSecond}
 use Rattle.stamp.specs.declared.InstantAnswer.{InstantAnswer}
 use Rattle.stamp.specs.declared.InstantAnswer.the-variants.{At, Refused}
-use Rattle.stamp.specs.Scales.{offsetsOf, mostSecond}
-use Rattle.stamp.specs.Stamps.{instantFor, instantIn}
+use Rattle.stamp.specs.Scales.{offsetsOf, mostSecond, instantFor}
+use Rattle.stamp.specs.Stamps.{instantIn}
 use Rattle.labels.proofs.Judging.{onMonth, then-judged}
 use Rattle.stamp.proofs.instant_in.Statement.{statement}
 use Rattle.stamp.proofs.instant_in.Tie as tie

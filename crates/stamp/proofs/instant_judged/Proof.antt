@@ -18,8 +18,7 @@ use Rattle.labels.specs.Labels.{Offsets, monthOf, minuteIn, minuteLength}
 use Rattle.labels.specs.Seconds.{microOf, axisAt}
 use Rattle.labels.proofs.Facts.{second-no, second-yes}
 use Rattle.stamp.specs.declared.InstantAnswer.the-variants.{At}
-use Rattle.stamp.specs.Scales.{offsetsOf, mostSecond, toInstant}
-use Rattle.stamp.specs.Stamps.{instantFor}
+use Rattle.stamp.specs.Scales.{offsetsOf, mostSecond, toInstant, instantFor}
 use Rattle.stamp.proofs.Scales.{most-sixty}
 use Rattle.labels.proofs.Judging.{Fields, judged-fields}
 use Rattle.stamp.proofs.instant_judged.Statement.{statement}

@@ -25,8 +25,8 @@ use Rattle.labels.specs.Seconds.{microOf, axisAt, first, last, placeAt, labelOf
 use Rattle.labels.proofs.Facts.{second-no, second-yes}
 use Rattle.labels.proofs.Uniform.{first-micro, last-micro, reading-month, reading-micro}
 use Rattle.stamp.specs.declared.InstantAnswer.the-variants.{At}
-use Rattle.stamp.specs.Scales.{offsetsOf, toInstant}
-use Rattle.stamp.specs.Stamps.{instantFor, instantShowing}
+use Rattle.stamp.specs.Scales.{offsetsOf, toInstant, instantFor}
+use Rattle.stamp.specs.Back.{instantShowing}
 use Rattle.stamp.proofs.instant_showing.Statement.{statement}
 use Rattle.stamp.proofs.instant_showing.Tie as tie
 

@@ -18,7 +18,7 @@ use Rattle.labels.specs.declared.Place.{Place}
 use Rattle.labels.specs.Seconds.{inYears, placeAt}
 use Rattle.stamp.specs.declared.MomentAnswer.the-variants.{In}
 use Rattle.stamp.specs.Scales.{offsetsOf}
-use Rattle.stamp.specs.Stamps.{inRange, axisCount}
+use Rattle.stamp.specs.Back.{inRange, axisCount}
 use Rattle.stamp.proofs.Ranges.{range-low, range-high, count-in-years}
 use Rattle.stamp.proofs.moment_in.Statement.{statement}
 use Rattle.stamp.proofs.moment_in.Tie as tie

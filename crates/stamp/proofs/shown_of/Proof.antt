@@ -9,7 +9,7 @@ use Rattle.leap.specs.Leap.{tabled}
 use Rattle.stamp.specs.declared.Moment.{Moment}
 use Rattle.stamp.specs.declared.MomentAnswer.{MomentAnswer}
 use Rattle.stamp.specs.declared.MomentAnswer.the-variants.{In}
-use Rattle.stamp.specs.Stamps.{shownOf}
+use Rattle.stamp.specs.Back.{shownOf}
 use Rattle.stamp.specs.Parts.{momentOf}
 use Rattle.stamp.proofs.Moments.{shown, shown-of-moment, moment-few}
 use Rattle.stamp.proofs.shown_of.Statement.{statement}
