@@ -14,7 +14,6 @@ use Rattle.leap.specs.declared.Table.{Table}
 use Rattle.leap.specs.Leap.{accepted, offsetAt}
 use Rattle.leap.proofs.Facts.{accepted-to}
 use Rattle.leap.proofs.Moves.{at-first}
-use Rattle.labels.specs.declared.Label.{Label}
 use Rattle.labels.specs.declared.Reading.{Reading}
 use Rattle.labels.specs.Labels.{label, at, monthOf}
 use Rattle.labels.specs.Seconds.{secondOf, microOf, first}
@@ -27,7 +26,7 @@ use Rattle.stamp.specs.Stamps.{instantFor}
 use Rattle.stamp.proofs.Scales.{instant-is}
 use Rattle.julian.specs.Midnight.{midnightOf}
 use Rattle.julian.proofs.Midnight.{midnight-value}
-use Rattle.promises.specs.Constants.{date, MidnightIs, sinceNoon, Constants}
+use Rattle.promises.specs.Constants.{MidnightIs, sinceNoon, Constants}
 
 days-none : daysBefore 0 ≡ 0
 unfolding daysBefore
@@ -40,10 +39,10 @@ noon : secondOf (label 2000 1 1 12 0 0) ≡ 63113947200
 unfolding secondOf
 noon = omega (arith, days-2000)
 
-midnight : (l : Label) (n d : ℕ) → daysBefore (monthOf l) + (l .day - 1) ≡ d → 1721059 + d ≡ n → d < 2 ^ 51 → MidnightIs l n
-midnight l n d e f h =
-    subst (λ (x : ℕ). HasValue (midnightOf x) false (2 * n + 1) 2) (sym e)
-    (subst (λ (x : ℕ). HasValue (midnightOf d) false (2 * x + 1) 2) f (midnight-value d h))
+midnight : (y m d n x : ℕ) → daysBefore (monthOf (label y m d 0 0 0)) + (d - 1) ≡ x → 1721059 + x ≡ n → x < 2 ^ 51 → MidnightIs y m d n
+midnight y m d n x e f h =
+    subst (λ (v : ℕ). HasValue (midnightOf v) false (2 * n + 1) 2) (sym e)
+    (subst (λ (v : ℕ). HasValue (midnightOf x) false (2 * v + 1) 2) f (midnight-value x h))
 
 -- what a scale shows, from its instant
 module _ (t : Table) (r : Reading) where
@@ -85,7 +84,7 @@ constants =
       months-repeat = length-again;
       days-repeat = days-again;
       microseconds-of-a-day = refl;
-      midnight-of-1972 = midnight (date 1972 1 1) 2441317 720258 (omega (arith, days-1972)) refl (omega arith);
-      midnight-of-2000 = midnight (date 2000 1 1) 2451544 730485 (omega (arith, days-2000)) refl (omega arith);
-      last-midnight = midnight (date 9999 12 31) 5373483 3652424 (omega (arith, days-last)) refl (omega arith);
+      midnight-of-1972 = midnight 1972 1 1 2441317 720258 (omega (arith, days-1972)) refl (omega arith);
+      midnight-of-2000 = midnight 2000 1 1 2451544 730485 (omega (arith, days-2000)) refl (omega arith);
+      last-midnight = midnight 9999 12 31 5373483 3652424 (omega (arith, days-last)) refl (omega arith);
     }

@@ -52,7 +52,7 @@ use Rattle.pictures.specs.declared.FieldsAnswer.{FieldsAnswer}
 use Rattle.pictures.specs.declared.FieldsAnswer.the-variants.{Shows, NoPicture}
 use Rattle.pictures.specs.Pictures.{pictureText, WellFormed}
 use Rattle.pictures.specs.Reading.{readFields}
-use Rattle.pictures.proofs.Promise.{back, pictured}
+use Rattle.pictures.proofs.Promise.{back, shown}
 use Rattle.text.specs.declared.TextAnswer.the-variants.{Read, Refused as NoText}
 use Rattle.text.specs.Text.{dateOr, monthDayOf, readingOf, fieldsRead, readText, textResults, writeTests, textAt, writeText}
 use Rattle.text.proofs.Exactly.{sized}
@@ -62,7 +62,7 @@ use Rattle.julian.specs.Fraction.{isFraction}
 use Rattle.julian.specs.Midnight.{isMidnight, inYears, dayNumber}
 use Rattle.julian.specs.Dates.{micros, pairOf, writeJulian, julianResults, pairTests, microRead, readJulian}
 use Rattle.julian.proofs.Years.{years}
-use Rattle.promises.specs.Orders.{verdict, Verdicts, realDate, hasLabel, instantOfTests, dateReal, readTextTests, instantTests, writeTextTests, readJulianTests, startTests, isLast, tickTests, Orders, GivenExactly}
+use Rattle.promises.specs.Orders.{verdict, Verdicts, realMonthDay, withinLabels, instantOfTests, realAsShown, readTextTests, instantTests, writeTextTests, readJulianTests, startTests, isLast, tickTests, Orders, GivenExactly}
 
 -- ---- lists of tests
 
@@ -92,7 +92,7 @@ verdicts =
     appended (test ∷ a) b = ap (λ (n : ℕ). cond (test .0) n (number (test .1))) (appended a b)
 
 -- an instant is in range exactly from the first label's to the last's: the axis is the instant moved
-in-range : (t : Table) (s : Scale) (x : ℤ) → inRange t s x ≡ hasLabel t s x
+in-range : (t : Table) (s : Scale) (x : ℤ) → inRange t s x ≡ withinLabels t s x
 unfolding inLabels
 in-range t s x = ap₂ _&&_ (not-before (axisOf (offsetsOf t s) first)) (not-after (axisOf (offsetsOf t s) last-reading))
   where
@@ -107,12 +107,12 @@ in-range t s x = ap₂ _&&_ (not-before (axisOf (offsetsOf t s) first)) (not-aft
         (λ e. le-leZ (toAxis s x) a (omega (arith, leZ-true x (toInstant s a) e, to-instant-is s a, to-axis-is s x)))
 
 -- a text's date is judged as the month and the day that it stands for
-date-is : (y h mi s : ℕ) (d : Date) → let l : Label = label y (monthDayOf y d .month) (monthDayOf y d .day) h mi s in dateReal d l ≡ realDate l
+date-is : (y h mi s : ℕ) (d : Date) → let l : Label = label y (monthDayOf y d .month) (monthDayOf y d .day) h mi s in realAsShown d l ≡ realMonthDay l
 unfolding dateInYear realMonth realDay
 date-is y h mi s (Numbered m d) = refl
 date-is y h mi s (OfYear n) = go (leb 1 n && leb n (yearLength y)) refl
   where
-    go : (b : Bool) → (leb 1 n && leb n (yearLength y)) ≡ b → b ≡ realDate (label y (dateOr (cond b (On (inYear y (n - 1))) Nothing) .month) (dateOr (cond b (On (inYear y (n - 1))) Nothing) .day) h mi s)
+    go : (b : Bool) → (leb 1 n && leb n (yearLength y)) ≡ b → b ≡ realMonthDay (label y (dateOr (cond b (On (inYear y (n - 1))) Nothing) .month) (dateOr (cond b (On (inYear y (n - 1))) Nothing) .day) h mi s)
     go true e =
         let a = inYear y (n - 1) in
         let i = day-back y n a (sym (cond-yes Nothing e refl)) .0 in
@@ -140,11 +140,11 @@ module _ (t : Table) (ok : accepted t ≡ true) where
   unfolding after
   last-ticks =
       let w = all-tick t ok .ends in
-      ap (λ (a : TickAnswer). tickResults (onward t a)) (sym (shown (after t (w .0)) (w .1 .ends-with))) ∙ w .1 .stays-refused (suc (w .0)) (omega arith)
+      ap (λ (a : TickAnswer). tickResults (onward t a)) (sym (next-is (after t (w .0)) (w .1 .ends-with))) ∙ w .1 .stays-refused (suc (w .0)) (omega arith)
     where
-      shown : (a : TickAnswer) → tickResults a ≡ (0, last) → a ≡ Next last
-      shown (Next l) e = ap (λ v. Next (v .1)) e
-      shown (NoTick why) e = absurd (number-some why (ap (λ v. v .0) e))
+      next-is : (a : TickAnswer) → tickResults a ≡ (0, last) → a ≡ Next last
+      next-is (Next l) e = ap (λ v. Next (v .1)) e
+      next-is (NoTick why) e = absurd (number-some why (ap (λ v. v .0) e))
 
   -- an admitted label ticks but for the last
   ticks : (l : Label) → allPass (labelTests (offsetAt t) 60 (whole l)) ≡ true → tickResults (tick t l) .0 ≡ cond (not (isLast l)) 0 7
@@ -186,7 +186,7 @@ module _ (t : Table) where
       ∙ refusing-map (λ a. textResults a .0) NoText (scaleTests t k) (NoText SHAPE)
     where
       go : (a : FieldsAnswer) → readFields text ≡ a → a ≡ NoPicture
-      go (Shows g) e = let w = pictured text .shown g e in absurd (none g (w .0) (w .1))
+      go (Shows g) e = let w = shown text g e in absurd (none g (w .0) (w .1))
       go NoPicture e = refl
 
   -- and of an instant

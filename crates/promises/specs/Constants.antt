@@ -8,7 +8,6 @@ use lib.Ieee.Exact.{HasValue}
 use Rattle.months.specs.Months.{monthLength, daysBefore}
 use Rattle.leap.specs.declared.Table.{Table}
 use Rattle.leap.specs.Leap.{accepted, epoch, offsetAt, lastMonth as tableMonths}
-use Rattle.labels.specs.declared.Label.{Label}
 use Rattle.labels.specs.declared.Reading.{Reading}
 use Rattle.labels.specs.Labels.{label, at, monthOf}
 use Rattle.labels.specs.Seconds.{secondOf, microOf, firstMonth, lastMonth, endMonth, first}
@@ -17,13 +16,9 @@ use Rattle.stamp.specs.Stamps.{instantFor}
 use Rattle.julian.specs.Fraction.{day}
 use Rattle.julian.specs.Midnight.{midnightOf}
 
--- the first second of a date
-abbrev pub date : ℕ → ℕ → ℕ → Label
-date y m d = label y m d 0 0 0
-
--- the Julian midnight of the date is n and a half
-abbrev pub MidnightIs : Label → ℕ → Type 0
-MidnightIs l n = HasValue (midnightOf (daysBefore (monthOf l) + (l .day - 1))) false (2 * n + 1) 2
+-- the Julian midnight of a date is n and a half
+abbrev pub MidnightIs : ℕ → ℕ → ℕ → ℕ → Type 0
+MidnightIs y m d n = HasValue (midnightOf (daysBefore (monthOf (label y m d 0 0 0)) + (d - 1))) false (2 * n + 1) 2
 
 -- the microseconds that a reading shows after 2000-01-01 12:00:00, or before it
 abbrev pub sinceNoon : Reading → ℤ
@@ -40,16 +35,16 @@ pub record Constants : Type 0 where
   -- labels begin 883,655,990 seconds before that noon, on UTC
   pub first-instant : (t : Table) → accepted t ≡ true → instantFor t Utc first ≡ negℤ (pos (1000000 * 883655990))
   -- January 1972, where tables and labels begin, is month 23,664
-  pub january-1972 : (monthOf (date 1972 1 1) ≡ 23664) × ((epoch ≡ 23664) × (firstMonth ≡ 23664))
+  pub january-1972 : (monthOf (label 1972 1 1 0 0 0) ≡ 23664) × ((epoch ≡ 23664) × (firstMonth ≡ 23664))
   -- December 9999, where both end, is 96,335 months later, and month 120,000 is the one after it
-  pub december-9999 : (monthOf (date 9999 12 1) ≡ 23664 + 96335) × ((tableMonths ≡ 96335) × (lastMonth ≡ 23664 + 96335))
-  pub the-month-after : (monthOf (date 10000 1 1) ≡ 120000) × ((endMonth ≡ 120000) × (lastMonth + 1 ≡ 120000))
+  pub december-9999 : (monthOf (label 9999 12 1 0 0 0) ≡ 23664 + 96335) × ((tableMonths ≡ 96335) × (lastMonth ≡ 23664 + 96335))
+  pub the-month-after : (monthOf (label 10000 1 1 0 0 0) ≡ 120000) × ((endMonth ≡ 120000) × (lastMonth + 1 ≡ 120000))
   -- the calendar repeats after 400 years, 146,097 days
   pub months-repeat : (m : ℕ) → monthLength (m + 12 * 400) ≡ monthLength m
   pub days-repeat : (m : ℕ) → daysBefore (m + 12 * 400) ≡ daysBefore m + 146097
   -- a day has 86,400,000,000 microseconds
   pub microseconds-of-a-day : day ≡ 86400 * 1000000
   -- 2441317.5, 2451544.5 and 5373483.5
-  pub midnight-of-1972 : MidnightIs (date 1972 1 1) 2441317
-  pub midnight-of-2000 : MidnightIs (date 2000 1 1) 2451544
-  pub last-midnight : MidnightIs (date 9999 12 31) 5373483
+  pub midnight-of-1972 : MidnightIs 1972 1 1 2441317
+  pub midnight-of-2000 : MidnightIs 2000 1 1 2451544
+  pub last-midnight : MidnightIs 9999 12 31 5373483

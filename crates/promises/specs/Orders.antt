@@ -53,8 +53,8 @@ pub record Verdicts : Type 0 where
 -- ---- a stamp's fields, and a text's
 
 -- the year has the month, and the month the day
-abbrev pub realDate : Label → Bool
-realDate l = realMonth l && realDay l
+abbrev pub realMonthDay : Label → Bool
+realMonthDay l = realMonth l && realDay l
 
 -- `instant_of`: a reading on scale number k
 abbrev pub instantOfTests : Table → ℕ → Reading → List (Bool × Refusal)
@@ -62,16 +62,16 @@ instantOfTests t k r =
     (knownScale k, ASK)
     ∷ (accepted t, TABLE)
     ∷ (realYear (r .label), YEAR)
-    ∷ (realDate (r .label), DATE)
+    ∷ (realMonthDay (r .label), DATE)
     ∷ (realClock (mostSecond (scaleOf k)) r, CLOCK)
     ∷ (hasSecond (offsetsOf t (scaleOf k)) (r .label), NOSECOND)
     ∷ []
 
 -- a date as a text has it: the year has the day of the year, or the month, and the month the day
-abbrev pub dateReal : Date → Label → Bool
-dateReal (Numbered m d) l = realDate l
-dateReal (OfYear d) l = leb 1 d && leb d (yearLength (l .year))
-dateReal (Named m d) l = realDate l
+abbrev pub realAsShown : Date → Label → Bool
+realAsShown (Numbered m d) l = realMonthDay l
+realAsShown (OfYear d) l = leb 1 d && leb d (yearLength (l .year))
+realAsShown (Named m d) l = realMonthDay l
 
 -- `read_text`: whether the text has a picture, and the fields that it shows
 abbrev pub readTextTests : Table → ℕ → Bool → Fields → List (Bool × Refusal)
@@ -80,7 +80,7 @@ readTextTests t k pictured f =
     ∷ (accepted t, TABLE)
     ∷ (pictured, SHAPE)
     ∷ (realYear (readingOf f .label), YEAR)
-    ∷ (dateReal (f .date) (readingOf f .label), DATE)
+    ∷ (realAsShown (f .date) (readingOf f .label), DATE)
     ∷ (realClock (mostSecond (scaleOf k)) (readingOf f), CLOCK)
     ∷ (hasSecond (offsetsOf t (scaleOf k)) (readingOf f .label), NOSECOND)
     ∷ []
@@ -88,12 +88,12 @@ readTextTests t k pictured f =
 -- ---- an instant
 
 -- it is from the instant of the scale's first label, 1972-01-01 00:00:00, to that of its last, the last microsecond of 9999
-abbrev pub hasLabel : Table → Scale → ℤ → Bool
-hasLabel t s x = leZ (instantFor t s first) x && leZ x (instantFor t s last)
+abbrev pub withinLabels : Table → Scale → ℤ → Bool
+withinLabels t s x = leZ (instantFor t s first) x && leZ x (instantFor t s last)
 
 -- `stamp_of` and `write_julian`: the instant x on scale number k
 abbrev pub instantTests : Table → ℕ → ℤ → List (Bool × Refusal)
-instantTests t k x = (knownScale k, ASK) ∷ (accepted t, TABLE) ∷ (hasLabel t (scaleOf k) x, RANGE) ∷ []
+instantTests t k x = (knownScale k, ASK) ∷ (accepted t, TABLE) ∷ (withinLabels t (scaleOf k) x, RANGE) ∷ []
 
 -- the length of a text: that of its picture, and the point with its digits
 abbrev pub textLength : ℕ → ℕ → ℕ
@@ -104,7 +104,7 @@ abbrev pub writeTextTests : Table → ℤ → ℕ → ℕ → ℕ → List ℕ �
 writeTextTests t x p k digits buffer =
     (leb p 2 && (leb digits 6 && knownScale k), ASK)
     ∷ (accepted t, TABLE)
-    ∷ (hasLabel t (scaleOf k) x, RANGE)
+    ∷ (withinLabels t (scaleOf k) x, RANGE)
     ∷ (leb (textLength p digits) (length buffer), ROOM)
     ∷ []
 
@@ -141,7 +141,7 @@ abbrev pub tickTests : Table → Label → List (Bool × Refusal)
 tickTests t l =
     (accepted t, TABLE)
     ∷ (realYear l, YEAR)
-    ∷ (realDate l, DATE)
+    ∷ (realMonthDay l, DATE)
     ∷ (realClock 60 (whole l), CLOCK)
     ∷ (hasSecond (offsetAt t) l, NOSECOND)
     ∷ (not (isLast l), RANGE)
