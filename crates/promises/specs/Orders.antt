@@ -20,8 +20,8 @@ use Rattle.leap.specs.declared.Table.{Table}
 use Rattle.leap.specs.Leap.{accepted, offsetAt}
 use Rattle.labels.specs.declared.Label.{Label}
 use Rattle.labels.specs.declared.Reading.{Reading}
-use Rattle.labels.specs.Labels.{uniform, whole, realYear, realMonth, realDay, realClock, hasSecond}
-use Rattle.labels.specs.Seconds.{microOf, first, last, readingAt}
+use Rattle.labels.specs.Labels.{uniform, whole, realYear, realMonth, realDay, realClock, hasSecond, admitted}
+use Rattle.labels.specs.Seconds.{microOf, first, last}
 use Rattle.stamp.specs.declared.Scale.{Scale}
 use Rattle.stamp.specs.Scales.{scaleOf, knownScale, offsetsOf, mostSecond}
 use Rattle.stamp.specs.Stamps.{instantFor, instantOf, instantResults, stampOf, stampResults}
@@ -110,16 +110,20 @@ writeTextTests t x p k digits buffer =
 
 -- ---- a Julian date
 
--- `read_julian`: the pair, and after rounding the microsecond that the scale is to show, which is not past the last label's
-abbrev pub readJulianTests : Table → ℕ → JulianDate → List (Bool × Refusal)
-readJulianTests t k p =
+-- `read_julian`: the pair, then the microsecond that it stands for after rounding, and the reading r that shows this
+abbrev pub readJulianTests : Table → ℕ → JulianDate → Reading → List (Bool × Refusal)
+readJulianTests t k p r =
     (knownScale k, ASK)
     ∷ (accepted t, TABLE)
     ∷ (isMidnight (p .midnight) && isFraction (p .fraction), NUMBER)
     ∷ (inYears (p .midnight), RANGE)
     ∷ (leb (microRead p) (microOf last), RANGE)
-    ∷ (hasSecond (offsetsOf t (scaleOf k)) (readingAt uniform (microRead p) .label), NOSECOND)
+    ∷ (hasSecond (offsetsOf t (scaleOf k)) (r .label), NOSECOND)
     ∷ []
+
+-- r shows it, on days of 86,400 seconds from 1972 to 9999
+abbrev pub ShownBy : JulianDate → Reading → Type 0
+ShownBy p r = (admitted uniform 59 r ≡ true) × (microOf r ≡ microRead p)
 
 -- ---- a table alone, and the clock
 
@@ -157,7 +161,7 @@ pub record Orders : Type 0 where
   pub stamp-of : (t : Table) (k : ℕ) (x : ℤ) → order (instantTests t k x) ≡ 8 ∷ 11 ∷ 7 ∷ []
   pub write-julian : (t : Table) (k : ℕ) (x : ℤ) → order (instantTests t k x) ≡ 8 ∷ 11 ∷ 7 ∷ []
   -- 13, 7, then rounding, 7 again, 6
-  pub read-julian : (t : Table) (k : ℕ) (p : JulianDate) → order (readJulianTests t k p) ≡ 8 ∷ 11 ∷ 13 ∷ 7 ∷ 7 ∷ 6 ∷ []
+  pub read-julian : (t : Table) (k : ℕ) (p : JulianDate) (r : Reading) → order (readJulianTests t k p r) ≡ 8 ∷ 11 ∷ 13 ∷ 7 ∷ 7 ∷ 6 ∷ []
   pub write-block : (t : Table) (buffer : List ℕ) → order (writeBlockTests t buffer) ≡ 11 ∷ 1 ∷ []
   pub start-the-clock : (t : Table) → order (startTests t) ≡ 11 ∷ []
   pub tick-the-clock : (t : Table) (l : Label) → order (tickTests t l) ≡ 11 ∷ 3 ∷ 4 ∷ 5 ∷ 6 ∷ 7 ∷ []
@@ -171,7 +175,9 @@ pub record GivenExactly (t : Table) : Type 0 where
   pub instant-of : (k : ℕ) (r : Reading) → instantResults (instantOf t k r) .0 ≡ verdict (instantOfTests t k r)
   pub stamp-of : (k : ℕ) (x : ℤ) → stampResults (stampOf t x k) .0 ≡ verdict (instantTests t k x)
   pub write-julian : (k : ℕ) (x : ℤ) → julianResults (writeJulian t x k) .0 ≡ verdict (instantTests t k x)
-  pub read-julian : (k : ℕ) (p : JulianDate) → instantResults (readJulian t k p) .0 ≡ verdict (readJulianTests t k p)
+  -- a pair that some reading shows, and one that none does, whatever the reading after RANGE is
+  pub read-julian : (k : ℕ) (p : JulianDate) (r : Reading) → ShownBy p r → instantResults (readJulian t k p) .0 ≡ verdict (readJulianTests t k p r)
+  pub read-no-reading : (k : ℕ) (p : JulianDate) → ((r : Reading) → ShownBy p r → ⊥) → (r : Reading) → instantResults (readJulian t k p) .0 ≡ verdict (readJulianTests t k p r)
   pub write-block : (buffer : List ℕ) → writtenResults (writeBlock t buffer) .0 ≡ verdict (writeBlockTests t buffer)
   pub start-the-clock : tickResults (start t) .0 ≡ verdict (startTests t)
   pub tick-the-clock : (l : Label) → tickResults (tick t l) .0 ≡ verdict (tickTests t l)
