@@ -1,0 +1,183 @@
+-- The scope's paragraph "Order": the tests of each call in one list, each with its refusal. `Orders` has the numbers of each list, to be held against the
+-- paper. `GivenExactly` says that the number which a call answers is that of the first test of its list that fails, and 0 where none does.
+-- Reading a block has no list: it answers the first fault from the left, `readBlock`.
+-- Assumes nothing.
+use mathlib.Core.Path.{_≡_}
+use mathlib.Core.Logic.{_↔_}
+use mathlib.Core.Bool.{Bool, true, false, not, cond, _&&_}
+use mathlib.Core.List.{List, [], _∷_, _++_, map}
+use Prim.Native.Nat.{ℕ, _+_}
+use lib.Dec.{eqb, leb}
+use lib.IntN.{ℤ}
+use lib.ListN.{length, getD}
+use lib.Signed.{leZ}
+use Rattle.answer.specs.declared.Refusal.{Refusal}
+use Rattle.answer.specs.declared.Refusal.the-variants.{Room as ROOM, Shape as SHAPE, Year as YEAR, Date as DATE, Clock as CLOCK, NoSecond as NOSECOND, Range as RANGE, Ask as ASK, Table as TABLE, Number as NUMBER}
+use Rattle.answer.specs.Refusals.{number, refusing, allPass}
+use Rattle.answer.specs.Buffers.{writtenResults}
+use Rattle.calendar.specs.Days.{yearLength}
+use Rattle.leap.specs.declared.Table.{Table}
+use Rattle.leap.specs.Leap.{accepted, offsetAt}
+use Rattle.labels.specs.declared.Label.{Label}
+use Rattle.labels.specs.declared.Reading.{Reading}
+use Rattle.labels.specs.Labels.{uniform, whole, realYear, realMonth, realDay, realClock, hasSecond, admitted}
+use Rattle.labels.specs.Seconds.{microOf, first, last}
+use Rattle.stamp.specs.declared.Scale.{Scale}
+use Rattle.stamp.specs.Scales.{scaleOf, knownScale, offsetsOf, mostSecond}
+use Rattle.stamp.specs.Stamps.{instantFor, instantOf, instantResults, stampOf, stampResults}
+use Rattle.clock.specs.Clock.{start, tick, tickResults}
+use Rattle.block.specs.Blocks.{blockOf, writeBlock}
+use Rattle.pictures.specs.declared.Date.{Date}
+use Rattle.pictures.specs.declared.Date.the-variants.{Numbered, OfYear, Named}
+use Rattle.pictures.specs.declared.Fields.{Fields}
+use Rattle.pictures.specs.Pictures.{pictureText, WellFormed}
+use Rattle.text.specs.Text.{readingOf, readText, textResults, writeText}
+use Rattle.julian.specs.declared.JulianDate.{JulianDate}
+use Rattle.julian.specs.Fraction.{isFraction}
+use Rattle.julian.specs.Midnight.{isMidnight, inYears}
+use Rattle.julian.specs.Dates.{writeJulian, julianResults, microRead, readJulian}
+
+-- the numbers of a list of tests
+abbrev pub order : List (Bool × Refusal) → List ℕ
+order tests = map (λ test. number (test .1)) tests
+
+-- the number of the first test that fails, 0 where none does
+abbrev pub verdict : List (Bool × Refusal) → ℕ
+verdict tests = refusing number tests 0
+
+-- what a verdict says
+pub record Verdicts : Type 0 where
+  pub success-when-none-fails : (tests : List (Bool × Refusal)) → verdict tests ≡ 0 ↔ allPass tests ≡ true
+  pub else-the-first-that-fails : (before after : List (Bool × Refusal)) (why : Refusal) → allPass before ≡ true → verdict (before ++ (false, why) ∷ after) ≡ number why
+
+-- ---- a stamp's fields, and a text's
+
+-- the year has the month, and the month the day
+abbrev pub realMonthDay : Label → Bool
+realMonthDay l = realMonth l && realDay l
+
+-- `instant_of`: a reading on scale number k
+abbrev pub instantOfTests : Table → ℕ → Reading → List (Bool × Refusal)
+instantOfTests t k r =
+    (knownScale k, ASK)
+    ∷ (accepted t, TABLE)
+    ∷ (realYear (r .label), YEAR)
+    ∷ (realMonthDay (r .label), DATE)
+    ∷ (realClock (mostSecond (scaleOf k)) r, CLOCK)
+    ∷ (hasSecond (offsetsOf t (scaleOf k)) (r .label), NOSECOND)
+    ∷ []
+
+-- a date as a text has it: the year has the day of the year, or the month, and the month the day
+abbrev pub realAsShown : Date → Label → Bool
+realAsShown (Numbered m d) l = realMonthDay l
+realAsShown (OfYear d) l = leb 1 d && leb d (yearLength (l .year))
+realAsShown (Named m d) l = realMonthDay l
+
+-- `read_text`: whether the text has a picture, and the fields that it shows
+abbrev pub readTextTests : Table → ℕ → Bool → Fields → List (Bool × Refusal)
+readTextTests t k pictured f =
+    (knownScale k, ASK)
+    ∷ (accepted t, TABLE)
+    ∷ (pictured, SHAPE)
+    ∷ (realYear (readingOf f .label), YEAR)
+    ∷ (realAsShown (f .date) (readingOf f .label), DATE)
+    ∷ (realClock (mostSecond (scaleOf k)) (readingOf f), CLOCK)
+    ∷ (hasSecond (offsetsOf t (scaleOf k)) (readingOf f .label), NOSECOND)
+    ∷ []
+
+-- ---- an instant
+
+-- it is from the instant of the scale's first label, 1972-01-01 00:00:00, to that of its last, the last microsecond of 9999
+abbrev pub withinLabels : Table → Scale → ℤ → Bool
+withinLabels t s x = leZ (instantFor t s first) x && leZ x (instantFor t s last)
+
+-- `stamp_of` and `write_julian`: the instant x on scale number k
+abbrev pub instantTests : Table → ℕ → ℤ → List (Bool × Refusal)
+instantTests t k x = (knownScale k, ASK) ∷ (accepted t, TABLE) ∷ (withinLabels t (scaleOf k) x, RANGE) ∷ []
+
+-- the length of a text: that of its picture, and the point with its digits
+abbrev pub textLength : ℕ → ℕ → ℕ
+textLength p digits = getD (19 ∷ 17 ∷ 20 ∷ []) p 0 + cond (eqb digits 0) 0 (1 + digits)
+
+-- `write_text`
+abbrev pub writeTextTests : Table → ℤ → ℕ → ℕ → ℕ → List ℕ → List (Bool × Refusal)
+writeTextTests t x p k digits buffer =
+    (leb p 2 && (leb digits 6 && knownScale k), ASK)
+    ∷ (accepted t, TABLE)
+    ∷ (withinLabels t (scaleOf k) x, RANGE)
+    ∷ (leb (textLength p digits) (length buffer), ROOM)
+    ∷ []
+
+-- ---- a Julian date
+
+-- `read_julian`: the pair, then the microsecond that it stands for after rounding, and the reading r that shows this
+abbrev pub readJulianTests : Table → ℕ → JulianDate → Reading → List (Bool × Refusal)
+readJulianTests t k p r =
+    (knownScale k, ASK)
+    ∷ (accepted t, TABLE)
+    ∷ (isMidnight (p .midnight) && isFraction (p .fraction), NUMBER)
+    ∷ (inYears (p .midnight), RANGE)
+    ∷ (leb (microRead p) (microOf last), RANGE)
+    ∷ (hasSecond (offsetsOf t (scaleOf k)) (r .label), NOSECOND)
+    ∷ []
+
+-- r shows it, on days of 86,400 seconds from 1972 to 9999
+abbrev pub ShownBy : JulianDate → Reading → Type 0
+ShownBy p r = (admitted uniform 59 r ≡ true) × (microOf r ≡ microRead p)
+
+-- ---- a table alone, and the clock
+
+-- `write_block`
+abbrev pub writeBlockTests : Table → List ℕ → List (Bool × Refusal)
+writeBlockTests t buffer = (accepted t, TABLE) ∷ (leb (length (blockOf t)) (length buffer), ROOM) ∷ []
+
+-- `start`
+abbrev pub startTests : Table → List (Bool × Refusal)
+startTests t = (accepted t, TABLE) ∷ []
+
+-- the label is 9999-12-31 23:59:59
+abbrev pub isLast : Label → Bool
+isLast l =
+    eqb (l .year) 9999 && (eqb (l .month) 12 && (eqb (l .day) 31 && (eqb (l .hour) 23 && (eqb (l .minute) 59 && eqb (l .second) 59))))
+
+-- `tick`
+abbrev pub tickTests : Table → Label → List (Bool × Refusal)
+tickTests t l =
+    (accepted t, TABLE)
+    ∷ (realYear l, YEAR)
+    ∷ (realMonthDay l, DATE)
+    ∷ (realClock 60 (whole l), CLOCK)
+    ∷ (hasSecond (offsetAt t) l, NOSECOND)
+    ∷ (not (isLast l), RANGE)
+    ∷ []
+
+-- ---- the paragraph, call by call
+
+pub record Orders : Type 0 where
+  pub read-text : (t : Table) (k : ℕ) (pictured : Bool) (f : Fields) → order (readTextTests t k pictured f) ≡ 8 ∷ 11 ∷ 2 ∷ 3 ∷ 4 ∷ 5 ∷ 6 ∷ []
+  pub write-text : (t : Table) (x : ℤ) (p k digits : ℕ) (buffer : List ℕ) → order (writeTextTests t x p k digits buffer) ≡ 8 ∷ 11 ∷ 7 ∷ 1 ∷ []
+  -- a stamp's fields to an instant: as reading text, without 2
+  pub instant-of : (t : Table) (k : ℕ) (r : Reading) → order (instantOfTests t k r) ≡ 8 ∷ 11 ∷ 3 ∷ 4 ∷ 5 ∷ 6 ∷ []
+  pub stamp-of : (t : Table) (k : ℕ) (x : ℤ) → order (instantTests t k x) ≡ 8 ∷ 11 ∷ 7 ∷ []
+  pub write-julian : (t : Table) (k : ℕ) (x : ℤ) → order (instantTests t k x) ≡ 8 ∷ 11 ∷ 7 ∷ []
+  -- 13, 7, then rounding, 7 again, 6
+  pub read-julian : (t : Table) (k : ℕ) (p : JulianDate) (r : Reading) → order (readJulianTests t k p r) ≡ 8 ∷ 11 ∷ 13 ∷ 7 ∷ 7 ∷ 6 ∷ []
+  pub write-block : (t : Table) (buffer : List ℕ) → order (writeBlockTests t buffer) ≡ 11 ∷ 1 ∷ []
+  pub start-the-clock : (t : Table) → order (startTests t) ≡ 11 ∷ []
+  pub tick-the-clock : (t : Table) (l : Label) → order (tickTests t l) ≡ 11 ∷ 3 ∷ 4 ∷ 5 ∷ 6 ∷ 7 ∷ []
+
+-- each refusal is given exactly when its test is the first that fails, and success, 0, exactly when none does
+pub record GivenExactly (t : Table) : Type 0 where
+  -- a text that is the picture of fields, and one that is the picture of none, whatever the fields after SHAPE are
+  pub read-text : (k : ℕ) (text : List ℕ) (f : Fields) → WellFormed f → text ≡ pictureText f → textResults (readText t k text) .0 ≡ verdict (readTextTests t k true f)
+  pub read-no-picture : (k : ℕ) (text : List ℕ) → ((f : Fields) → WellFormed f → text ≡ pictureText f → ⊥) → (f : Fields) → textResults (readText t k text) .0 ≡ verdict (readTextTests t k false f)
+  pub write-text : (x : ℤ) (p k digits : ℕ) (buffer : List ℕ) → writtenResults (writeText t x p k digits buffer) .0 ≡ verdict (writeTextTests t x p k digits buffer)
+  pub instant-of : (k : ℕ) (r : Reading) → instantResults (instantOf t k r) .0 ≡ verdict (instantOfTests t k r)
+  pub stamp-of : (k : ℕ) (x : ℤ) → stampResults (stampOf t x k) .0 ≡ verdict (instantTests t k x)
+  pub write-julian : (k : ℕ) (x : ℤ) → julianResults (writeJulian t x k) .0 ≡ verdict (instantTests t k x)
+  -- a pair that some reading shows, and one that none does, whatever the reading after RANGE is
+  pub read-julian : (k : ℕ) (p : JulianDate) (r : Reading) → ShownBy p r → instantResults (readJulian t k p) .0 ≡ verdict (readJulianTests t k p r)
+  pub read-no-reading : (k : ℕ) (p : JulianDate) → ((r : Reading) → ShownBy p r → ⊥) → (r : Reading) → instantResults (readJulian t k p) .0 ≡ verdict (readJulianTests t k p r)
+  pub write-block : (buffer : List ℕ) → writtenResults (writeBlock t buffer) .0 ≡ verdict (writeBlockTests t buffer)
+  pub start-the-clock : tickResults (start t) .0 ≡ verdict (startTests t)
+  pub tick-the-clock : (l : Label) → tickResults (tick t l) .0 ≡ verdict (tickTests t l)
