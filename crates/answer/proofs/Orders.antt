@@ -1,9 +1,11 @@
 -- A call's refusals, answered one by one.
 -- Assumes nothing.
-use mathlib.Core.Path.{_≡_, refl, sym}
+use mathlib.Core.Path.{_≡_, refl, sym, ap, _∙_}
 use mathlib.Core.Bool.{Bool, true, false, cond, _&&_}
-use native.Mathlib.Omega.{arith}
 use mathlib.Core.List.{List, [], _∷_, _++_}
+use Prim.Native.Nat.{ℕ}
+use native.Mathlib.Omega.{arith}
+use lib.ListN.{getD}
 use Rattle.laws.proofs.Branches.{cond-yes, cond-rest}
 use Rattle.laws.proofs.Cases.{both, join}
 use Rattle.answer.specs.declared.Refusal.{Refusal}
@@ -66,3 +68,27 @@ number-some Groups e = omega arith
 number-some Table e = omega arith
 number-some Tail e = omega arith
 number-some Number e = omega arith
+
+-- the refusal of a number
+named : ℕ → Refusal
+named n = getD (Room ∷ Room ∷ Shape ∷ Year ∷ Date ∷ Clock ∷ NoSecond ∷ Range ∷ Ask ∷ Cut ∷ Groups ∷ Table ∷ Tail ∷ Number ∷ []) n Room
+
+named-back : (why : Refusal) → named (number why) ≡ why
+unfolding named
+named-back Room = refl
+named-back Shape = refl
+named-back Year = refl
+named-back Date = refl
+named-back Clock = refl
+named-back NoSecond = refl
+named-back Range = refl
+named-back Ask = refl
+named-back Cut = refl
+named-back Groups = refl
+named-back Table = refl
+named-back Tail = refl
+named-back Number = refl
+
+-- no two refusals share a number
+pub numbers-differ : (why other : Refusal) → number why ≡ number other → why ≡ other
+numbers-differ why other e = sym (named-back why) ∙ ap named e ∙ named-back other

@@ -14,7 +14,8 @@ use Rattle.laws.proofs.Cases.{by-test, by-order}
 use Rattle.block.specs.declared.NumberAnswer.{NumberAnswer}
 use Rattle.block.specs.declared.NumberAnswer.the-variants.{Number, Cut, Groups}
 use Rattle.block.specs.Promise.{Bytes}
-use Rattle.block.specs.Numbers.{groupsOf, numberBytes, above, readGroups}
+use Rattle.block.specs.Numbers.{groupsOf, numberBytes}
+use Rattle.block.specs.Reading.{above, readGroups}
 
 -- ---- a number of one group, and of more
 

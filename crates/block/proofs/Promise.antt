@@ -1,35 +1,38 @@
 -- Accepted tables and their blocks match one to one: what is written is read back, and only what is written is read.
 -- Assumes nothing.
 use Prim.Native.Nat.{ℕ, zero, suc, _+_, _-_, _/_, _≤_, _<_}
-use mathlib.Core.Path.{_≡_, refl, sym, ap, ap₂, _∙_}
+use mathlib.Core.Path.{_≡_, refl, sym, ap, ap₂, subst, _∙_}
 use mathlib.Core.List.{List, [], _∷_, _++_}
-use mathlib.Core.Bool.{Bool, true}
+use mathlib.Core.Bool.{Bool, true, false}
 use native.Mathlib.Omega.{arith}
-use lib.ListN.{length, take, drop}
+use lib.ListN.{length, drop}
 use lib.Seq.{drop-append-seam, getD-drop}
-use lib.Dec.{eqb, lit<}
-use borrow.Author.Tests.{lt-ltb, le-leb, eqb-true}
+use lib.Dec.{eqb, leb, lit<}
+use borrow.Author.Tests.{lt-ltb, le-leb, leb-true, leb-false, eqb-true}
 use Rattle.laws.proofs.Cases.{by-test, join}
-use Rattle.laws.proofs.Placed.{over-front}
+use Rattle.answer.specs.declared.Refusal.{Refusal}
+use Rattle.answer.specs.Refusals.{number}
 use Rattle.answer.specs.Buffers.{writtenResults}
-use Rattle.answer.proofs.Writers.{wrote, wrote-over}
+use Rattle.answer.proofs.Orders.{number-some, numbers-differ}
 use Rattle.leap.specs.declared.Table.{Table}
-use Rattle.leap.specs.Leap.{lastMonth}
+use Rattle.leap.specs.Leap.{lastMonth, accepted}
 use Rattle.leap.specs.Entries.{Entry, firstEntry, entriesFrom, entries, tableOf, Good}
-use Rattle.leap.specs.Readers.{tableResults, Outcome, entered, fault, after, tableRead}
+use Rattle.leap.specs.Readers.{noTable, tableResults, Outcome, entered, fault, after, tableRead}
 use Rattle.leap.proofs.Facts.{Later, same-entry, accepted-to}
 use Rattle.leap.proofs.Entries.{Follow, from-long, entries-of, table-is, accepted-entries, accepted-of}
 use Rattle.leap.proofs.Readers.{was-entered}
 use Rattle.block.specs.declared.NumberAnswer.{NumberAnswer}
 use Rattle.block.specs.declared.NumberAnswer.the-variants.{Number, Cut, Groups}
-use Rattle.block.specs.Numbers.{numberBytes, readNumber}
-use Rattle.block.specs.Blocks.{stepNumber, stepBytes, blockOf, tests, writeBlock, writeBlockAfter}
-use Rattle.block.specs.Reading.{countFine, gapFine, nextEntry, onNumber, readEntries, inBlock, readBlock}
-use Rattle.block.specs.Promise.{Bytes, Gives, OneToOne}
+use Rattle.block.specs.Numbers.{numberBytes}
+use Rattle.block.specs.Blocks.{stepNumber, stepBytes, blockOf, writeBlock}
+use Rattle.block.specs.Faults.{countFine, gapFine, noFault, faultAt, firstFault}
+use Rattle.block.specs.Reading.{readNumber, nextEntry, onNumber, readEntries, inBlock, readBlock}
+use Rattle.block.specs.Promise.{Bytes, GivesTable, OneToOne, ReadsBlock, WritesBlock, Blocks}
 use Rattle.block.proofs.Numbers.{read-written, written-read, bytes-append, bytes-groups}
 use Rattle.block.proofs.Steps.{bit, bit-small, next-bit, next-back, next-apart}
 use Rattle.block.proofs.Reading.{count-fine, gap-fine}
 use Rattle.block.proofs.Blocks.{step-small}
+use Rattle.block.proofs.Faults.{faultOf, block-fault}
 
 -- ---- what is written is read back
 
@@ -160,28 +163,71 @@ block-bytes : (t : Table) → Bytes (blockOf t)
 unfolding blockOf
 block-bytes t = bytes-append (numberBytes (t .count)) (stepBytes (entries t)) (bytes-groups 3 (t .count)) (steps-bytes (entries t))
 
-block-gives : (t : Table) → Good t → Gives (blockOf t) t
+block-gives : (t : Table) → Good t → GivesTable (blockOf t) t
 block-gives t g = ap (λ o. tableResults (tableRead o)) (block-back t g) ∙ ap (λ u. (0, 0, u)) (table-is g)
 
-given-is : (s : List ℕ) (t : Table) → Bytes s → Gives s t → Good t × (blockOf t ≡ s)
+given-is : (s : List ℕ) (t : Table) → Bytes s → GivesTable s t → Good t × (blockOf t ≡ s)
 given-is s t h e = let w = was-entered (inBlock s) t e in rw (w .2) at (held-is s (w .0) h (w .1))
 
 one-table : (t u : Table) → Good t → Good u → blockOf t ≡ blockOf u → t ≡ u
 one-table t u g h e = ap (λ r. r .2) (sym (block-gives t g) ∙ ap (λ s. tableResults (readBlock s)) e ∙ block-gives u h)
 
-one-block : (r s : List ℕ) (t : Table) → Bytes r → Bytes s → Gives r t → Gives s t → r ≡ s
-one-block r s t g h p q = sym (given-is r t g p .1) ∙ given-is s t h q .1
-
-written-back : (t : Table) (buffer : List ℕ) (n : ℕ) → Good t → writtenResults (writeBlock t buffer) ≡ (0, n) → Gives (take n (writeBlockAfter t buffer)) t
-written-back t buffer n g e =
-    let w = wrote-over (tests t) (blockOf t) buffer n (wrote (writeBlock t buffer) n e) in
-    rw (w .1 .1, over-front (blockOf t) buffer (w .0)) (block-gives t g)
-
 pub one-to-one : OneToOne
 one-to-one = record {
-  table-to-block = λ t g. (block-bytes t, block-gives t g);
-  block-to-table = given-is;
+  gives-the-table-of-the-block = λ s t. (λ h. given-is s t (h .0) (h .1), λ h. subst (λ r. Bytes r × GivesTable r t) (h .1) (block-bytes t, block-gives t (h .0)));
   one-table-a-block = one-table;
-  one-block-a-table = one-block;
-  reads-back = written-back;
+  one-block-a-table = λ r s t g h p q. sym (given-is r t g p .1) ∙ given-is s t h q .1;
 }
+
+-- what was read, by its fault
+pub reads : (s : List ℕ) → ReadsBlock s
+reads s = record {
+  gives-a-table = (λ g. sym (block-fault s) ∙ ap faultOf (was-entered (inBlock s) (g .0) (g .1) .1), λ e. found (inBlock s) (block-fault s ∙ e));
+  refuses = λ why place. (λ e. sym (block-fault s) ∙ refused (inBlock s) e, λ e. is-refused (inBlock s) (block-fault s ∙ e));
+}
+  where
+    found : (o : Outcome) → faultOf o ≡ noFault → (t : Table) × (tableResults (tableRead o) ≡ (0, 0, t))
+    found (entered es) e = (tableOf es, refl)
+    found (fault why at) e = let z : _≡_ {A = ℕ} 0 1 = cc in absurd (omega arith)
+
+    refused : {why : Refusal} {place : ℕ} (o : Outcome) → tableResults (tableRead o) ≡ (number why, place, noTable) → faultOf o ≡ faultAt why place
+    refused {why} (entered es) e = absurd (number-some why (ap (λ x. x .0) (sym e)))
+    refused {why} (fault other at) e = ap₂ faultAt (numbers-differ other why (ap (λ x. x .0) e)) (ap (λ x. x .1) e)
+
+    is-refused : {why : Refusal} {place : ℕ} (o : Outcome) → faultOf o ≡ faultAt why place → tableResults (tableRead o) ≡ (number why, place, noTable)
+    is-refused (entered es) e = let z : _≡_ {A = ℕ} 0 1 = cc in absurd (omega arith)
+    is-refused {why} {place} (fault other at) e = let f : other ≡ why = cc in let g : at ≡ place = cc in rw (f, g)
+
+-- what is written, by whether the table is accepted and the block fits
+pub writes : (t : Table) (buffer : List ℕ) → WritesBlock t buffer
+writes t buffer = go (accepted t) (leb (length (blockOf t)) (length buffer)) refl refl
+  where
+    -- two numbers that differ
+    other : {m n : ℕ} {l : ℕ} → writtenResults (writeBlock t buffer) ≡ (m, l) → writtenResults (writeBlock t buffer) ≡ (n, 0) → m ≡ n
+    other p q = ap (λ x. x .0) (sym p ∙ q)
+
+    go : (a b : Bool) → accepted t ≡ a → leb (length (blockOf t)) (length buffer) ≡ b → WritesBlock t buffer
+    go true true p q =
+        let is : writtenResults (writeBlock t buffer) ≡ (0, length (blockOf t)) = rw (p, q) in
+        record {
+          where-it-fits = λ a l. (is, rw (p, q));
+          room = (λ e. let z = other is e in absurd (omega arith), λ h. absurd (omega (arith, leb-true (length (blockOf t)) (length buffer) q)));
+          table = (λ e. let z = other is e in absurd (omega arith), λ h. let z : _≡_ {A = ℕ} 0 1 = cc in absurd (omega arith));
+        }
+    go true false p q =
+        let is : writtenResults (writeBlock t buffer) ≡ (1, 0) = rw (p, q) in
+        record {
+          where-it-fits = λ a l. absurd (omega (arith, leb-false (length (blockOf t)) (length buffer) q));
+          room = (λ e. (p, leb-false (length (blockOf t)) (length buffer) q), λ h. is);
+          table = (λ e. let z = other is e in absurd (omega arith), λ h. let z : _≡_ {A = ℕ} 0 1 = cc in absurd (omega arith));
+        }
+    go false b p q =
+        let is : writtenResults (writeBlock t buffer) ≡ (11, 0) = rw p in
+        record {
+          where-it-fits = λ a l. let z : _≡_ {A = ℕ} 0 1 = cc in absurd (omega arith);
+          room = (λ e. let z = other is e in absurd (omega arith), λ h. let a = h .0 in let z : _≡_ {A = ℕ} 0 1 = cc in absurd (omega arith));
+          table = (λ e. p, λ h. is);
+        }
+
+pub blocks : Blocks
+blocks = record { one-to-one = one-to-one; reads = reads; writes = writes }

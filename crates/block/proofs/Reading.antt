@@ -20,8 +20,8 @@ use Rattle.leap.proofs.Readers.{after-after}
 use Rattle.laws.proofs.Cases.{both}
 use Rattle.block.specs.declared.NumberAnswer.{NumberAnswer}
 use Rattle.block.specs.declared.NumberAnswer.the-variants.{Number}
-use Rattle.block.specs.Numbers.{readNumber}
-use Rattle.block.specs.Reading.{countFine, gapFine, nextOffset, nextEntry, onNumber, readEntries, inBlock}
+use Rattle.block.specs.Faults.{countFine, gapFine}
+use Rattle.block.specs.Reading.{readNumber, nextOffset, nextEntry, onNumber, readEntries, inBlock}
 use Rattle.block.proofs.Numbers.{read-within}
 use Rattle.block.proofs.Steps.{next-small}
 

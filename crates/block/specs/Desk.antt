@@ -1,4 +1,4 @@
--- The night desk's rows on blocks, as one table, and the edges of the paragraph as another.
+-- The blocks that the night desk names, and the edges of the paragraph "The stored block", as tables of rows.
 -- Assumes nothing.
 use mathlib.Core.Path.{_≡_}
 use mathlib.Core.List.{List, [], _∷_}
@@ -6,16 +6,29 @@ use Prim.Native.Nat.{ℕ}
 use lib.IntN.{pos}
 use lib.ListN.{length}
 use Rattle.leap.specs.declared.Table.{Table}
-use Rattle.leap.specs.Desk.{T, N}
 use Rattle.leap.specs.Leap.{lastMonth, rising, filled, bulletinC}
-use Rattle.block.specs.Blocks.{blockOf}
 use Rattle.leap.specs.Readers.{noTable, tableResults}
+use Rattle.block.specs.Blocks.{blockOf}
 use Rattle.block.specs.Reading.{readBlock}
 
-abbrev pub B : List ℕ
-B =
+-- B, T and N of the desk: that of Bulletin C, two added seconds, and a taken-out one
+abbrev pub blockB : List ℕ
+blockB =
     0x1C ∷ 0x0C ∷ 0x0C ∷ 0x18 ∷ 0x18 ∷ 0x18 ∷ 0x18 ∷ 0x18 ∷ 0x18 ∷ 0x18 ∷ 0x24 ∷ 0x18 ∷ 0x18 ∷ 0x30 ∷ 0x3C ∷ 0x30 ∷ 0x18
     ∷ 0x24 ∷ 0x18 ∷ 0x18 ∷ 0x24 ∷ 0x24 ∷ 0x24 ∷ 0xA8 ∷ 0x01 ∷ 0x48 ∷ 0x54 ∷ 0x48 ∷ 0x24 ∷ []
+
+abbrev pub blockT : List ℕ
+blockT = 0x03 ∷ 0x0C ∷ 0x0C ∷ []
+
+abbrev pub blockN : List ℕ
+blockN = 0x02 ∷ 0x0D ∷ []
+
+-- and the tables of T and N
+abbrev pub tableT : Table
+tableT = filled (0 ∷ 6 ∷ 12 ∷ []) (rising 3 10)
+
+abbrev pub tableN : Table
+tableN = filled (0 ∷ 6 ∷ []) (pos 10 ∷ pos 9 ∷ [])
 
 pub data Row : Type 0 where
   -- a table takes so many bytes
@@ -25,23 +38,13 @@ pub data Row : Type 0 where
   -- a block is refused with this number at this place, and gives the all-zero table
   refuses : List ℕ → ℕ → ℕ → Row
 
--- the proved set, marked P
-abbrev pub rows : List Row
-rows =
-    refuses (0x81 ∷ 0x00 ∷ []) 10 0
-    ∷ refuses (0x01 ∷ 0x00 ∷ []) 12 1
-    ∷ refuses (0x02 ∷ 0x01 ∷ []) 11 1
-    ∷ refuses [] 9 0
-    ∷ refuses (0x41 ∷ []) 11 0
-    ∷ []
-
 -- the blocks that the desk names
 abbrev pub named : List Row
 named =
     takes bulletinC 29
-    ∷ gives B bulletinC
-    ∷ gives (0x03 ∷ 0x0C ∷ 0x0C ∷ []) T
-    ∷ gives (0x02 ∷ 0x0D ∷ []) N
+    ∷ gives blockB bulletinC
+    ∷ gives blockT tableT
+    ∷ gives blockN tableN
     ∷ []
 
 -- the same for what the desk's rows do not show

@@ -1,5 +1,6 @@
 pub mod Numbers
 pub mod Blocks
+pub mod Faults
 pub mod Reading
 pub mod Promise
 pub mod Desk

@@ -1,15 +1,22 @@
--- Demand 2, of blocks. "Accepted tables and stored blocks match one to one."
--- `blockOf t` is the block of a table, `Gives s t` says that reading s answers success with table t, `Good t` that t is accepted.
+-- Demand 2, of blocks. "Accepted tables and stored blocks match one to one." And what reading and writing a block answers, on every input.
+-- `blockOf t` is the block of a table, `firstFault s` the first fault of bytes, `Good t` says that t is accepted.
 -- Assumes nothing.
 use mathlib.Core.Path.{_≡_}
+use mathlib.Core.Logic.{_↔_}
+use mathlib.Core.Bool.{true, false}
 use mathlib.Core.List.{List}
-use Prim.Native.Nat.{ℕ, _<_}
-use lib.ListN.{getD, take}
+use Prim.Native.Nat.{ℕ, _≤_, _<_}
+use lib.ListN.{length, getD}
+use Rattle.laws.specs.Placed.{over}
+use Rattle.answer.specs.declared.Refusal.{Refusal}
+use Rattle.answer.specs.Refusals.{number}
 use Rattle.answer.specs.Buffers.{writtenResults}
 use Rattle.leap.specs.declared.Table.{Table}
+use Rattle.leap.specs.Leap.{accepted}
 use Rattle.leap.specs.Entries.{Good}
-use Rattle.leap.specs.Readers.{tableResults}
+use Rattle.leap.specs.Readers.{noTable, tableResults}
 use Rattle.block.specs.Blocks.{blockOf, writeBlock, writeBlockAfter}
+use Rattle.block.specs.Faults.{noFault, faultAt, firstFault}
 use Rattle.block.specs.Reading.{readBlock}
 
 -- numbers that a byte holds
@@ -17,16 +24,33 @@ abbrev pub Bytes : List ℕ → Type 0
 Bytes s = (i : ℕ) → getD s i 0 < 256
 
 -- reading s answers success with table t
-abbrev pub Gives : List ℕ → Table → Type 0
-Gives s t = tableResults (readBlock s) ≡ (0, 0, t)
+abbrev pub GivesTable : List ℕ → Table → Type 0
+GivesTable s t = tableResults (readBlock s) ≡ (0, 0, t)
 
 pub record OneToOne : Type 0 where
-  -- every accepted table has a block, and reading that gives the table
-  pub table-to-block : (t : Table) → Good t → Bytes (blockOf t) × Gives (blockOf t) t
-  -- every block that is accepted is the block of the table that it gives, and that table is accepted
-  pub block-to-table : (s : List ℕ) (t : Table) → Bytes s → Gives s t → Good t × (blockOf t ≡ s)
+  -- bytes give a table exactly when the table is accepted and they are its block
+  pub gives-the-table-of-the-block : (s : List ℕ) (t : Table) → (Bytes s × GivesTable s t) ↔ (Good t × (blockOf t ≡ s))
   -- so no two tables share a block, and no two blocks give one table
   pub one-table-a-block : (t u : Table) → Good t → Good u → blockOf t ≡ blockOf u → t ≡ u
-  pub one-block-a-table : (r s : List ℕ) (t : Table) → Bytes r → Bytes s → Gives r t → Gives s t → r ≡ s
-  -- what `write_block` leaves in a buffer is read back from there
-  pub reads-back : (t : Table) (buffer : List ℕ) (n : ℕ) → Good t → writtenResults (writeBlock t buffer) ≡ (0, n) → Gives (take n (writeBlockAfter t buffer)) t
+  pub one-block-a-table : (r s : List ℕ) (t : Table) → Bytes r → Bytes s → GivesTable r t → GivesTable s t → r ≡ s
+
+-- what reading answers
+pub record ReadsBlock (s : List ℕ) : Type 0 where
+  -- a table exactly when there is no fault
+  pub gives-a-table : ((t : Table) × GivesTable s t) ↔ (firstFault s ≡ noFault)
+  -- a refusal, with its place and the all-zero table, exactly when it is the first fault
+  pub refuses : (why : Refusal) (place : ℕ) → (tableResults (readBlock s) ≡ (number why, place, noTable)) ↔ (firstFault s ≡ faultAt why place)
+
+-- what writing answers, and leaves in the buffer
+pub record WritesBlock (t : Table) (buffer : List ℕ) : Type 0 where
+  -- the block of an accepted table is written wherever it fits, and past it every byte stays
+  pub where-it-fits : accepted t ≡ true → length (blockOf t) ≤ length buffer
+      → (writtenResults (writeBlock t buffer) ≡ (0, length (blockOf t))) × (writeBlockAfter t buffer ≡ over (blockOf t) buffer)
+  -- ROOM exactly when it is longer than the buffer, TABLE exactly when the table is not accepted
+  pub room : (writtenResults (writeBlock t buffer) ≡ (1, 0)) ↔ ((accepted t ≡ true) × (length buffer < length (blockOf t)))
+  pub table : (writtenResults (writeBlock t buffer) ≡ (11, 0)) ↔ (accepted t ≡ false)
+
+pub record Blocks : Type 0 where
+  pub one-to-one : OneToOne
+  pub reads : (s : List ℕ) → ReadsBlock s
+  pub writes : (t : Table) (buffer : List ℕ) → WritesBlock t buffer

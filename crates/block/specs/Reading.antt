@@ -1,29 +1,39 @@
--- What reading a block gives: left to right, the first fault is answered, with the place of the first byte of the number at fault.
+-- The steps of the reader, which the contracts of its functions cite. Nothing here need be believed: `ReadsBlock` of specs/Promise.antt says what `readBlock`
+-- answers, by `firstFault` and `blockOf` alone.
 -- Assumes nothing.
-use Prim.Native.Nat.{ℕ, zero, suc, _+_, _-_, _/_, _%_}
+use Prim.Native.Nat.{ℕ, zero, suc, _+_, _-_, _*_, _/_, _%_}
 use mathlib.Core.List.{List, [], _∷_}
-use mathlib.Core.Bool.{Bool, cond, _&&_}
-use lib.Dec.{ltb, leb, eqb}
+use mathlib.Core.Bool.{Bool, cond}
+use lib.Dec.{ltb, eqb}
 use lib.IntN.{ℤ, pos, _+ℤ_, _-ℤ_}
 use lib.ListN.{length, drop}
 use Rattle.answer.specs.declared.Refusal.the-variants.{Cut as CUT, Groups as GROUPS, Table as TABLE, Tail as TAIL}
 use Rattle.leap.specs.declared.TableRead.{TableRead}
-use Rattle.leap.specs.Leap.{lastMonth}
 use Rattle.leap.specs.Entries.{Entry, firstEntry}
 use Rattle.leap.specs.Readers.{Outcome, entered, fault, after, tableRead}
 use Rattle.block.specs.declared.NumberAnswer.{NumberAnswer}
 use Rattle.block.specs.declared.NumberAnswer.the-variants.{Number, Cut, Groups}
-use Rattle.block.specs.Numbers.{readNumber}
+use Rattle.block.specs.Faults.{countFine, gapFine}
 
--- ---- a number's own test, and what it stands for
+-- ---- a number
 
--- a count of 1 to 64
-abbrev pub countFine : ℕ → Bool
-countFine n = ltb 0 n && leb n 64
+-- a group, and what was read after it: that is 0 only where it is a last group of zero, which after another group is GROUPS
+abbrev pub above : ℕ → NumberAnswer → NumberAnswer
+above low (Number high size) = cond (eqb high 0) Groups (Number (high * 128 + low) (size + 1))
+above low Cut = Cut
+above low Groups = Groups
 
--- a gap of at least a month, and no month past December 9999
-abbrev pub gapFine : ℕ → ℕ → Bool
-gapFine before n = ltb 0 (n / 2) && leb (before + n / 2) lastMonth
+-- The number of at most k groups with which s begins, and how many bytes it has.
+-- Where all k bytes have the top bit set it is GROUPS, also where s ends there; an end sooner is CUT.
+unfoldable pub readGroups : ℕ → List ℕ → NumberAnswer
+readGroups zero s = Groups
+readGroups (suc k) [] = Cut
+readGroups (suc k) (byte ∷ s) = cond (ltb byte 128) (Number byte 1) (above (byte % 128) (readGroups k s))
+
+abbrev pub readNumber : List ℕ → NumberAnswer
+readNumber s = readGroups 3 s
+
+-- ---- what it stands for
 
 -- a step of +1, or of -1 where the number is odd
 abbrev pub nextOffset : ℤ → ℕ → ℤ

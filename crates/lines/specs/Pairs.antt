@@ -1,7 +1,7 @@
 -- Bytes as pairs of hex digits, read and written.
 -- Assumes nothing.
 use Prim.Native.Nat.{ℕ, _+_, _-_, _*_, _/_, _%_}
-use mathlib.Core.Bool.{Bool, cond}
+use mathlib.Core.Bool.{Bool, cond, _&&_}
 use mathlib.Core.List.{List, [], _∷_}
 use lib.Dec.{eqb, leb, ltb}
 use lib.ListN.{length}
@@ -11,10 +11,13 @@ use Rattle.digits.specs.declared.Number.the-variants.{Is, Bad}
 
 -- ---- in
 
--- the value of a hex digit of either case; 16 for any other byte
+-- b is between a and c
+abbrev within : ℕ → ℕ → ℕ → Bool
+within a b c = leb a b && leb b c
+
+-- the value of a hex digit of either case, 0 to 9, A to F or a to f; 16 for any other byte
 unfoldable pub nibble : ℕ → ℕ
-nibble b =
-    cond (leb 48 b) (cond (leb b 57) (b - 48) (cond (leb 65 b) (cond (leb b 70) (b - 55) (cond (leb 97 b) (cond (leb b 102) (b - 87) 16) 16)) 16)) 16
+nibble b = cond (within 48 b 57) (b - 48) (cond (within 65 b 70) (b - 55) (cond (within 97 b 102) (b - 87) 16))
 
 -- the bytes of the pairs before the first that is none
 unfoldable pub paired : List ℕ → List ℕ

@@ -21,7 +21,7 @@ use Rattle.clock.specs.declared.TickAnswer.the-variants.{Refused as NoTick}
 use Rattle.text.specs.declared.TextAnswer.the-variants.{Refused as NoText}
 use Rattle.julian.specs.declared.JulianAnswer.the-variants.{Refused as NoDate}
 use Rattle.leap.specs.Readers.{noTable, refusedAt, tableResults}
-use Rattle.leap.specs.Desk.{N}
+use Rattle.block.specs.Desk.{tableN}
 use Rattle.mundreff.specs.Words.{offsetWord, tableWords, Undone}
 use Rattle.mundreff.specs.Answers.{tableNumbers, stampNumbers, labelNumbers, textNumbers, pairNumbers}
 
@@ -39,7 +39,7 @@ pub record ZeroInTheRest (why : Refusal) : Type 0 where
 
 pub record Answers : Type 0 where
   -- a table in C: the count, 64 months, 64 offsets; -1 has all bits set
-  pub a-table-in-c : tableWords N ≡ 2 ∷ ((0 ∷ 6 ∷ replicate 62 0) ++ (10 ∷ 9 ∷ replicate 62 0))
+  pub a-table-in-c : tableWords tableN ≡ 2 ∷ ((0 ∷ 6 ∷ replicate 62 0) ++ (10 ∷ 9 ∷ replicate 62 0))
   pub minus-one-in-c : offsetWord (negsuc 0) ≡ 4294967295
   pub table-and-words : Undone
   pub zero-in-the-rest : (why : Refusal) → ZeroInTheRest why

@@ -1,7 +1,7 @@
 -- Demand 2, of blocks. "Accepted tables and stored blocks match one to one."
 -- The statement stands beside the block, in crates/block/specs/Promise.antt.
 -- Assumes nothing.
-use Rattle.block.specs.Promise.{OneToOne}
+use Rattle.block.specs.Promise.{Blocks}
 
 abbrev pub Demand2Blocks : Type 0
-Demand2Blocks = OneToOne
+Demand2Blocks = Blocks

@@ -12,7 +12,7 @@ use borrow.Author.Needs.{needs}
 use borrow.Author.Tests.{ltb-true, ltb-false}
 use Rattle.block.specs.declared.NumberAnswer.{NumberAnswer}
 use Rattle.block.specs.declared.NumberAnswer.the-variants.{Number}
-use Rattle.block.specs.Numbers.{above, readGroups}
+use Rattle.block.specs.Reading.{above, readGroups}
 use Rattle.block.proofs.Numbers.{above-zero, above-number, at-none, at-end, at-last, at-more, read-within}
 use Rattle.block.proofs.Masks.{joined}
 use borrow.Fn.Kinds.{In}

@@ -6,7 +6,7 @@ use borrow.Author.Needs.{needs}
 use Rattle.laws.proofs.Branches.{fails, holds}
 use Rattle.leap.specs.Readers.{tableRead}
 use Rattle.block.specs.declared.NumberAnswer.the-variants.{Number}
-use Rattle.block.specs.Numbers.{readNumber}
+use Rattle.block.specs.Reading.{readNumber}
 use Rattle.block.proofs.Numbers.{read-within}
 use Rattle.block.proofs.Reading.{count-fine, on-count, count-fault, count-entries}
 use Rattle.block.proofs.read_block.Statement.{statement}

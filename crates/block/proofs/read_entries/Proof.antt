@@ -17,8 +17,7 @@ use Rattle.laws.proofs.Branches.{fails, holds}
 use Rattle.leap.specs.Entries.{firstEntry}
 use Rattle.leap.specs.Readers.{Outcome, tableRead}
 use Rattle.leap.proofs.Readers.{after-none}
-use Rattle.block.specs.Reading.{nextOffset, readEntries}
-use Rattle.block.specs.Numbers.{readNumber}
+use Rattle.block.specs.Reading.{readNumber, nextOffset, readEntries}
 use Rattle.block.specs.declared.NumberAnswer.the-variants.{Number}
 use Rattle.block.proofs.Reading.{Reading, month-early, offset-is, on-number, on-answer, on-fault, on-entry, on-tail, on-end}
 use Rattle.block.proofs.read_entries.Statement.{statement}

@@ -10,7 +10,7 @@ use Rattle.lines.proofs.hex_digit.Tie as tie
 returns : tie.Need-returns
 unfolding nibble
 returns c =
-    let b = c .before .args .b in (rw (lt-leb 48 b (omega arith)), search needs)
+    let b = c .before .args .b in (rw (lt-leb 48 b (omega arith), lt-leb 65 b (omega arith), lt-leb 97 b (omega arith)), search needs)
 
 returns-2 : tie.Need-returns-2
 unfolding nibble
@@ -20,7 +20,7 @@ returns-2 c =
 returns-3 : tie.Need-returns-3
 unfolding nibble
 returns-3 c =
-    let b = c .before .before .before .args .b in (rw (le-leb 48 b (omega arith), lt-leb b 57 (omega arith), lt-leb 65 b (omega arith)), search needs)
+    let b = c .before .before .before .args .b in (rw (le-leb 48 b (omega arith), lt-leb b 57 (omega arith), lt-leb 65 b (omega arith), lt-leb 97 b (omega arith)), search needs)
 
 returns-4 : tie.Need-returns-4
 unfolding nibble

@@ -1,0 +1,135 @@
+-- The first fault that the reader meets is that of `firstFault`.
+-- Assumes nothing.
+use Prim.Native.Nat.{ℕ, zero, suc, _+_, _-_, _*_, _%_, _<_, _≤_}
+use mathlib.Core.Path.{_≡_, refl, sym, ap, _∙_}
+use mathlib.Core.List.{List, [], _∷_}
+use mathlib.Core.Bool.{Bool, true, false, cond}
+use native.Mathlib.Omega.{arith}
+use lib.ListN.{length, drop, getD}
+use lib.Dec.{ltb, eqb}
+use borrow.Author.Tests.{lt-ltb, le-ltb, eq-eqb, ne-eqb}
+use Rattle.laws.proofs.Branches.{cond-yes, cond-rest}
+use Rattle.laws.proofs.Cases.{by-order, or-l, or-r}
+use Rattle.answer.specs.declared.Refusal.the-variants.{Cut as CUT, Groups as GROUPS, Table as TABLE}
+use Rattle.answer.specs.Refusals.{refusing}
+use Rattle.answer.proofs.Orders.{refusing-map}
+use Rattle.leap.specs.Entries.{Entry, firstEntry}
+use Rattle.leap.specs.Readers.{Outcome, entered, fault, after}
+use Rattle.block.specs.declared.NumberAnswer.{NumberAnswer}
+use Rattle.block.specs.declared.NumberAnswer.the-variants.{Number, Cut, Groups}
+use Rattle.block.specs.Faults.{marks, numberSize, numberValue, shortest, numberTests, countFine, gapFine, Fault, noFault, faultAt, faultFrom, firstFault}
+use Rattle.block.specs.Reading.{above, readGroups, readNumber, nextEntry, onNumber, readEntries, inBlock}
+use Rattle.block.proofs.Numbers.{read-more, above-zero, above-number}
+
+-- ---- a number
+
+-- one group, and a group with the mark for more
+module _ (b : ℕ) (s : List ℕ) where
+  marks-one : b < 128 → marks (b ∷ s) ≡ 0
+  unfolding marks
+  marks-one l = rw (lt-ltb b 128 l)
+
+  marks-more : 128 ≤ b → marks (b ∷ s) ≡ suc (marks s)
+  unfolding marks
+  marks-more l = rw (le-ltb b 128 l)
+
+  value-one : b < 128 → numberValue (b ∷ s) ≡ b
+  unfolding numberValue
+  value-one l = rw (lt-ltb b 128 l)
+
+  value-more : 128 ≤ b → numberValue (b ∷ s) ≡ numberValue s * 128 + b % 128
+  unfolding numberValue
+  value-more l = rw (le-ltb b 128 l)
+
+-- by its last group: a number of one group is that, and one with a last group that is not 0 is not 0
+only-group : (s : List ℕ) → marks s ≡ 0 → numberValue s ≡ getD s 0 0
+unfolding numberValue
+only-group [] e = refl
+only-group (b ∷ s) e = by-order b 128 (λ l. value-one b s l) (λ l. absurd (omega (arith, marks-more b s l)))
+
+last-group : (s : List ℕ) → 0 < getD s (marks s) 0 → 0 < numberValue s
+last-group [] h = absurd (omega arith)
+last-group (b ∷ s) h =
+    by-order b 128
+    (λ l. rw (value-one b s l) (rw (marks-one b s l) at h))
+    (λ l. omega (arith, value-more b s l, last-group s (rw (marks-more b s l) at h)))
+
+-- a group below the number with which s begins, where that ends and has few enough groups
+above-number-of : (low : ℕ) (s : List ℕ) → above low (cond (shortest s) (Number (numberValue s) (numberSize s)) Groups) ≡ cond (ltb 0 (getD s (marks s) 0)) (Number (numberValue s * 128 + low) (suc (marks s) + 1)) Groups
+above-number-of low s =
+    by-order 0 (getD s (marks s) 0)
+    (λ l. cond-yes Groups (lt-ltb 0 _ l) (shorter (or-r (eqb (marks s) 0) (lt-ltb 0 _ l)) ∙ above-number low (numberValue s) (numberSize s) (omega (arith, last-group s l)) ∙ ap (Number (numberValue s * 128 + low)) (omega arith)))
+    (λ z.
+    let f : getD s (marks s) 0 ≡ 0 = omega arith in
+    cond-rest (Number (numberValue s * 128 + low) (suc (marks s) + 1)) (le-ltb 0 _ z)
+    (by-order 0 (marks s)
+    (λ l. rw (ne-eqb (marks s) 0 (omega arith), le-ltb 0 (getD s (marks s) 0) z))
+    (λ l. let e : marks s ≡ 0 = omega arith in shorter (or-l (ltb 0 (getD s (marks s) 0)) (eq-eqb (marks s) 0 e)) ∙ above-zero low (numberValue s) (numberSize s) (only-group s e ∙ ap (λ k. getD s k 0) (sym e) ∙ f))))
+  where
+    shorter : {b : Bool} → shortest s ≡ b → above low (cond (shortest s) (Number (numberValue s) (numberSize s)) Groups) ≡ above low (cond b (Number (numberValue s) (numberSize s)) Groups)
+    shorter e = ap (λ b. above low (cond b (Number (numberValue s) (numberSize s)) Groups)) e
+
+-- one group more
+one-more : (low k m n : ℕ) (x y : NumberAnswer) → above low x ≡ y → above low (cond (ltb m k) (cond (ltb m n) x Cut) Groups) ≡ cond (ltb (suc m) (suc k)) (cond (ltb (suc m) (suc n)) y Cut) Groups
+one-more low k m n x y e =
+    by-order m k
+    (λ p.
+    by-order m n
+    (λ q. rw (lt-ltb m k p, lt-ltb m n q, lt-ltb (suc m) (suc k) (omega arith), lt-ltb (suc m) (suc n) (omega arith)) e)
+    (λ q. rw (lt-ltb m k p, le-ltb m n q, lt-ltb (suc m) (suc k) (omega arith), le-ltb (suc m) (suc n) (omega arith))))
+    (λ p. rw (le-ltb m k p, le-ltb (suc m) (suc k) (omega arith)))
+
+-- what is read as a number of at most k groups
+abbrev judged : ℕ → List ℕ → NumberAnswer
+judged k s = cond (ltb (marks s) k) (cond (ltb (marks s) (length s)) (cond (shortest s) (Number (numberValue s) (numberSize s)) Groups) Cut) Groups
+
+read-is : (k : ℕ) (s : List ℕ) → readGroups k s ≡ judged k s
+unfolding readGroups marks
+read-is zero s = rw (le-ltb (marks s) 0 (omega arith))
+read-is (suc k) [] = rw (lt-ltb 0 (suc k) (omega arith))
+read-is (suc k) (b ∷ s) =
+    by-order b 128
+    (λ l. rw (lt-ltb b 128 l, value-one b s l, lt-ltb 0 (suc k) (omega arith), lt-ltb 0 (suc (length s)) (omega arith)))
+    (λ l. read-more k b s l ∙ ap (above (b % 128)) (read-is k s) ∙ one-more (b % 128) k (marks s) (length s) _ _ (above-number-of (b % 128) s) ∙ rw (le-ltb b 128 l, value-more b s l, ne-eqb (suc (marks s)) 0 (omega arith)))
+
+-- ---- the block
+
+-- the fault of what was read
+abbrev pub faultOf : Outcome → Fault
+faultOf (entered es) = noFault
+faultOf (fault why at) = faultAt why at
+
+fault-after : (es : List Entry) (o : Outcome) → faultOf (after es o) ≡ faultOf o
+fault-after es (entered fs) = refl
+fault-after es (fault why at) = refl
+
+-- a number's tests, in their order
+on-tests : (at : ℕ) (fine : ℕ → Bool) (follows : ℕ → ℕ → Outcome) (s : List ℕ) → onNumber at fine follows (readNumber s) ≡ refusing (λ why. fault why at) (numberTests fine s) (follows (numberValue s) (numberSize s))
+on-tests at fine follows s = ap (onNumber at fine follows) (read-is 3 s) ∙ go (ltb (marks s) 3) (ltb (marks s) (length s)) (shortest s)
+  where
+    go : (a b c : Bool) → onNumber at fine follows (cond a (cond b (cond c (Number (numberValue s) (numberSize s)) Groups) Cut) Groups)
+        ≡ cond a (cond b (cond c (cond (fine (numberValue s)) (follows (numberValue s) (numberSize s)) (fault TABLE at)) (fault GROUPS at)) (fault CUT at)) (fault GROUPS at)
+    go true true true = refl
+    go true true false = refl
+    go true false c = refl
+    go false b c = refl
+
+-- the fault of what follows a number is that of what follows it here
+number-fault : (at : ℕ) (fine : ℕ → Bool) (follows : ℕ → ℕ → Outcome) (s : List ℕ) {f : Fault} → faultOf (follows (numberValue s) (numberSize s)) ≡ f
+    → faultOf (onNumber at fine follows (readNumber s)) ≡ refusing (λ why. faultAt why at) (numberTests fine s) f
+number-fault at fine follows s e =
+    ap faultOf (on-tests at fine follows s)
+    ∙ refusing-map faultOf (λ why. fault why at) (numberTests fine s) (follows (numberValue s) (numberSize s))
+    ∙ ap (refusing (λ why. faultAt why at) (numberTests fine s)) e
+
+entries-fault : (left : ℕ) (e : Entry) (at : ℕ) (s : List ℕ) → faultOf (readEntries left e at s) ≡ faultFrom left (e .0) at s
+unfolding readEntries faultFrom
+entries-fault zero e at [] = refl
+entries-fault zero e at (b ∷ s) = rw (ne-eqb (suc (length s)) 0 (omega arith))
+entries-fault (suc left) e at s =
+    number-fault at (gapFine (e .0)) (λ n k. after (e ∷ []) (readEntries left (nextEntry e n) (at + k) (drop k s))) s
+    (fault-after (e ∷ []) (readEntries left (nextEntry e (numberValue s)) (at + numberSize s) (drop (numberSize s) s)) ∙ entries-fault left (nextEntry e (numberValue s)) (at + numberSize s) (drop (numberSize s) s))
+
+pub block-fault : (s : List ℕ) → faultOf (inBlock s) ≡ firstFault s
+unfolding inBlock firstFault
+block-fault s = number-fault 0 countFine (λ n k. readEntries (n - 1) firstEntry k (drop k s)) s (entries-fault (numberValue s - 1) firstEntry (numberSize s) (drop (numberSize s) s))

@@ -1,0 +1,61 @@
+-- The first fault of a block, read left to right, with the place of the first byte of the number at fault. No table is in it.
+-- Assumes nothing.
+use Prim.Native.Nat.{ℕ, zero, suc, _+_, _-_, _*_, _/_, _%_}
+use mathlib.Core.List.{List, [], _∷_}
+use mathlib.Core.Bool.{Bool, cond, _&&_, _||_}
+use lib.Dec.{ltb, leb, eqb}
+use lib.ListN.{length, drop, getD}
+use Rattle.answer.specs.declared.Refusal.{Refusal}
+use Rattle.answer.specs.declared.Refusal.the-variants.{Cut as CUT, Groups as GROUPS, Table as TABLE, Tail as TAIL}
+use Rattle.answer.specs.Refusals.{refusing}
+use Rattle.leap.specs.Leap.{lastMonth}
+
+-- ---- the number with which bytes begin
+
+-- how many bytes with the top bit set go before the first without it
+unfoldable pub marks : List ℕ → ℕ
+marks [] = 0
+marks (byte ∷ s) = cond (ltb byte 128) 0 (suc (marks s))
+
+-- how many bytes the number has: these, and the last
+abbrev pub numberSize : List ℕ → ℕ
+numberSize s = marks s + 1
+
+-- what it is: groups of seven bits, lowest group first
+unfoldable pub numberValue : List ℕ → ℕ
+numberValue [] = 0
+numberValue (byte ∷ s) = cond (ltb byte 128) byte (numberValue s * 128 + byte % 128)
+
+-- no last group of zero after another group
+abbrev pub shortest : List ℕ → Bool
+shortest s = eqb (marks s) 0 || ltb 0 (getD s (marks s) 0)
+
+-- three bytes with the top bit set are GROUPS, also where the bytes end there; an end sooner is CUT; then the shortest form, then the number's own test
+abbrev pub numberTests : (ℕ → Bool) → List ℕ → List (Bool × Refusal)
+numberTests fine s = (ltb (marks s) 3, GROUPS) ∷ (ltb (marks s) (length s), CUT) ∷ (shortest s, GROUPS) ∷ (fine (numberValue s), TABLE) ∷ []
+
+-- a count of 1 to 64
+abbrev pub countFine : ℕ → Bool
+countFine n = ltb 0 n && leb n 64
+
+-- a gap of at least a month after this one, and no month past December 9999
+abbrev pub gapFine : ℕ → ℕ → Bool
+gapFine month n = ltb 0 (n / 2) && leb (month + n / 2) lastMonth
+
+-- ---- the block
+
+pub data Fault : Type 0 where
+  noFault : Fault
+  faultAt : Refusal → ℕ → Fault
+
+-- of the bytes from a place on, where so many entries are left after one of this month
+unfoldable pub faultFrom : ℕ → ℕ → ℕ → List ℕ → Fault
+faultFrom zero month place [] = noFault
+faultFrom zero month place (byte ∷ s) = faultAt TAIL place
+faultFrom (suc left) month place s =
+    refusing (λ why. faultAt why place) (numberTests (gapFine month) s) (faultFrom left (month + numberValue s / 2) (place + numberSize s) (drop (numberSize s) s))
+
+-- of a block: its count, and then an entry for each after the first, which is of month 0
+unfoldable pub firstFault : List ℕ → Fault
+firstFault s =
+    refusing (λ why. faultAt why 0) (numberTests countFine s) (faultFrom (numberValue s - 1) 0 (numberSize s) (drop (numberSize s) s))
