@@ -34,7 +34,7 @@ use Rattle.text.specs.declared.TextAnswer.the-variants.{Read, Refused}
 use Rattle.text.specs.Text.{readingOf, fieldsRead, textOf, textAt, readText, textResults}
 use Rattle.text.specs.Desk.{gives, writes, unwritten, rows, furtherRows, Right, AllRight, shapeless, AllShapeless}
 use Rattle.text.proofs.Exactly.{reads-as}
-use Rattle.text.proofs.Back.{stamp-of-reading}
+use Rattle.text.proofs.Writing.{stamp-of-reading}
 
 -- the last microsecond before 2000-01-01 12:00:00 is in range, and has this stamp
 noon : (inRange bulletinC (scaleOf 1) (negℤ (pos 1)) ≡ true) × (stampAt bulletinC (scaleOf 1) (negℤ (pos 1)) ≡ stamp (scaleOf 1) (at 2000 1 1 11 59 59 999999))
@@ -62,10 +62,12 @@ unfolding leapYear monthLength daysBefore lastBegun offsetAt lastMinute minuteIn
 end-of-2016 =
     ap textResults (reads-as bulletinC 0 (ascii "2016-366T23:59:60") (pos 536500836000000) (at 2016 12 31 23 59 60 0)
     (record {
-      known = omega arith;
-      good = bulletin-accepted;
-      shows = record { picture = 1; digits = 0; a-picture = omega arith; a-number = omega arith; enough = refl; text-is = refl };
+      picture = 1;
+      digits = 0;
+      known = record { a-scale = omega arith; a-picture = omega arith; a-number = omega arith; a-table = bulletin-accepted };
       reads = record { is-admitted = refl; instant-is = quick-instant bulletinC (scaleOf 0) (at 2016 12 31 23 59 60 0) };
+      enough = refl;
+      text-is = refl;
     }))
 
 -- with the short way to an instant
