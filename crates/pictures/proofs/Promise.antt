@@ -1,22 +1,20 @@
 -- A text is read as fields exactly where it is the text of these fields, and they are well formed.
 -- Assumes nothing.
 use mathlib.Core.Path.{_≡_, refl, sym, ap, ap₂, subst, _∙_}
-use mathlib.Core.Bool.{Bool, true, false, cond, _&&_, _||_}
+use mathlib.Core.Bool.{Bool, true, false, cond, _&&_}
 use mathlib.Core.Logic.{_⊎_, ⊎-elim}
-use mathlib.Core.List.{List, [], _∷_, _++_, append-assoc}
+use mathlib.Core.List.{List, _∷_, _++_, append-assoc}
 use Prim.Native.Char.{code}
 use Prim.Native.Nat.{ℕ, _+_, _-_, _/_, _%_, _^_, min, _≤_, _<_}
 use native.Mathlib.Omega.{arith}
 use borrow.Author.Tests.{ne-eqb, eqb-true, le-leb, leb-true}
-use lib.Dec.{T, eqb, leb, ltb, lit<}
+use lib.Dec.{T, leb, ltb, lit<}
 use lib.ListN.{length, take, drop, getD, length-append}
 use lib.Seq.{take-at, take-append-add, drop-drop}
-use Rattle.laws.proofs.Branches.{cond-yes}
-use Rattle.laws.proofs.Cases.{by-test, and-l, and-r, join}
+use Rattle.laws.proofs.Cases.{and-l, and-r, join}
 use Rattle.laws.proofs.Placed.{over-old}
 use Rattle.digits.specs.Bytes.{bytesAt}
-use Rattle.digits.specs.Decimals.{isDigit, digitValue, allDigits, digitsOf, spelled, number}
-use Rattle.digits.specs.Months.{monthName, monthNamed}
+use Rattle.digits.specs.Decimals.{digitValue, digitsOf, spelled, number}
 use Rattle.digits.proofs.Decimals.{number-back, number-lt}
 use Rattle.digits.proofs.Months.{named-is, named-back}
 use Rattle.pictures.specs.declared.Date.{Date}
@@ -27,7 +25,7 @@ use Rattle.pictures.specs.declared.FieldsAnswer.the-variants.{Shows, NoP
 use Rattle.pictures.specs.Parts.{Numbers}
 use Rattle.pictures.specs.Pictures.{dateText, clockText, fractionText, pictureText, DateFits, WellFormed}
 use Rattle.pictures.specs.Reading.{asShown, like, filled, rightLength, hasPicture, numberedPattern, ofYearPattern, namedPattern, monthIn, fieldsIn, numberedIn, ofYearIn, namedIn, orElse, readNumbered, readOfYear, readNamed, readFields}
-use Rattle.pictures.specs.Promise.{Pictured, Determined}
+use Rattle.pictures.specs.Promise.{Determined}
 use Rattle.pictures.proofs.Spelling.{digit-yes, all-bytes, number-whole, again}
 use Rattle.pictures.proofs.Fraction.{cut, fraction-filled, fraction-length, fraction-right}
 use Rattle.pictures.proofs.Patterns.{and-false, digits-at, numbers-at, like-length, like-at, unlike, countless, counts-none, lengths}
@@ -295,9 +293,6 @@ shown s f =
     (under (Is s) (hasPicture ofYearPattern 17 s) _ f (λ h. of-year-shown s h))
     (under (Is s) (hasPicture namedPattern 20 s && leb 1 (monthIn (filled namedPattern s))) _ f
     (λ h. named-shown s (and-l _ (leb 1 (monthIn (filled namedPattern s))) h) (leb-true 1 _ (and-r (hasPicture namedPattern 20 s) _ h)))))
-
-pub pictured : (text : List ℕ) → Pictured text
-pictured text = record { shown = shown text; none = λ e f w q. let h = sym e ∙ ap readFields q ∙ back f w in let z : _≡_ {A = ℕ} 0 1 = cc in omega arith }
 
 pub determined : Determined
 determined f g v w e = let h : Shows f ≡ Shows g = sym (back f v) ∙ ap readFields e ∙ back g w in cc

@@ -4,7 +4,7 @@ use mathlib.Core.Path.{_≡_, refl, sym, ap, ap₂, subst, _∙_}
 use mathlib.Core.Bool.{true, _&&_}
 use mathlib.Core.List.{List, [], _∷_, _++_}
 use Prim.Native.Nat.{ℕ, zero, suc, _+_, _-_, _*_, _/_, _%_, _^_, _≤_, _<_}
-use native.Mathlib.Nat.{zero-add, add-zero, suc-add, sub-zero, suc-sub-suc, one-mul, add-mul, mul-assoc, add-assoc, pow-succ', one-le-pow, mul-le-mul-right, le-of-suc-le-suc, not-suc-le-zero, div-eq-of-lt, mul-add-div-right, add-mul-mod-self-right, zero-mod}
+use native.Mathlib.Nat.{zero-add, add-zero, suc-add, sub-zero, suc-sub-suc, add-mul, mul-assoc, add-assoc, pow-succ', one-le-pow, le-of-suc-le-suc, not-suc-le-zero, div-eq-of-lt, mul-add-div-right, add-mul-mod-self-right, zero-mod}
 use native.Mathlib.Omega.{arith}
 use borrow.Author.Tests.{le-leb}
 use lib.Arith.{mod-mul}

@@ -1,10 +1,9 @@
--- Which texts have a picture, and what each of them shows: "capital letters, fixed widths, one blank where shown. A point with one to six digits may follow."
+-- The reader's own steps, which need not be believed: `ReadExactly` of `text` says by `pictureText` alone which texts are read, and as what.
 -- Each picture is a pattern, with its six digits behind the point, and a text may leave out the fraction or end after any digit of it.
 -- Assumes nothing.
 use mathlib.Core.Bool.{Bool, true, false, cond, _&&_, _||_}
 use mathlib.Core.List.{List, [], _∷_}
 use Prim.Native.Char.{code}
-use Prim.Native.String.{String}
 use Prim.Native.Nat.{ℕ, _+_, _-_}
 use lib.Dec.{eqb, leb}
 use lib.ListN.{length}

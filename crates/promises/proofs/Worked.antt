@@ -38,7 +38,7 @@ use Rattle.text.specs.declared.TextAnswer.{TextAnswer}
 use Rattle.text.specs.declared.TextAnswer.the-variants.{Read, Refused}
 use Rattle.text.specs.Text.{readingOf, fieldsRead, textOf, textAt, readText, textResults}
 use Rattle.text.proofs.Exactly.{reads-as}
-use Rattle.text.proofs.Back.{stamp-of-reading}
+use Rattle.text.proofs.Writing.{stamp-of-reading}
 use Rattle.julian.specs.Dates.{writeJulian, julianResults}
 use Rattle.julian.proofs.Desk.{desk}
 use Rattle.promises.specs.Worked.{reads, writes, writes-not, rows, furtherRows, tableIn, Right, AllRight, Worked}
@@ -78,9 +78,11 @@ end-of-2016 =
     ap (λ (t : Table). textResults (readText t 0 (ascii "2016-366T23:59:60"))) is-B
     ∙ ap textResults (reads-as bulletinC 0 (ascii "2016-366T23:59:60") (pos 536500836000000) (at 2016 12 31 23 59 60 0)
     (record {
-      known = omega arith;
-      good = bulletin-accepted;
-      shows = record { picture = 1; digits = 0; a-picture = omega arith; a-number = omega arith; enough = refl; text-is = refl };
+      picture = 1;
+      digits = 0;
+      known = record { a-scale = omega arith; a-picture = omega arith; a-number = omega arith; a-table = bulletin-accepted };
+      enough = refl;
+      text-is = refl;
       reads = record { is-admitted = refl; instant-is = quick-instant bulletinC (scaleOf 0) (at 2016 12 31 23 59 60 0) };
     }))
 

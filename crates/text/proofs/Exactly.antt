@@ -1,8 +1,8 @@
 -- The promises on a text's length and on reading are kept.
 -- Assumes nothing.
 use mathlib.Core.Path.{_≡_, refl, sym, ap, ap₂, subst, _∙_}
-use mathlib.Core.Bool.{true, cond}
-use mathlib.Core.List.{List}
+use mathlib.Core.Bool.{Bool, true, false, cond}
+use mathlib.Core.List.{List, [], _∷_}
 use Prim.Native.Nat.{ℕ, zero, suc, _+_, _*_, _/_, _-_, _%_, _^_, _≤_}
 use native.Mathlib.Omega.{arith}
 use borrow.Author.Tests.{le-leb, leb-true, ne-eqb}
@@ -11,7 +11,8 @@ use lib.IntN.{ℤ}
 use lib.ListN.{length, length-take}
 use Rattle.laws.proofs.Cases.{and-l, and-r, join}
 use Rattle.answer.specs.declared.Refusal.{Refusal}
-use Rattle.answer.specs.declared.Refusal.the-variants.{Shape as SHAPE}
+use Rattle.answer.specs.declared.Refusal.the-variants.{Shape as SHAPE, Year as YEAR, Date as DATE, Clock as CLOCK, NoSecond as NOSECOND, Ask as ASK, Table as TABLE}
+use Rattle.answer.specs.Refusals.{refusing}
 use Rattle.answer.proofs.Orders.{none-refused, was-passed, number-some}
 use Rattle.calendar.specs.declared.YearDate.{YearDate}
 use Rattle.calendar.specs.declared.YearDate.the-variants.{On, Nothing}
@@ -31,8 +32,9 @@ use Rattle.pictures.specs.Pictures.{fractionText, pictureText, DateFits, WellFo
 use Rattle.pictures.specs.Reading.{readFields}
 use Rattle.pictures.proofs.Promise.{shown, back}
 use Rattle.labels.specs.declared.Reading.{Reading}
+use Rattle.stamp.specs.declared.Scale.{Scale}
 use Rattle.stamp.specs.declared.Stamp.{Stamp}
-use Rattle.labels.specs.Labels.{Offsets, monthOf, labelTests}
+use Rattle.labels.specs.Labels.{Offsets, monthOf, realYear, realMonth, realDay, realClock, hasSecond, labelTests}
 use Rattle.stamp.specs.Scales.{scaleOf, scaleTests, offsetsOf, mostSecond}
 use Rattle.stamp.specs.Stamps.{instantFor}
 use Rattle.stamp.specs.Promise.{stamp}
@@ -40,7 +42,7 @@ use Rattle.stamp.proofs.Scales.{most-sixty}
 use Rattle.text.specs.declared.TextAnswer.{TextAnswer}
 use Rattle.text.specs.declared.TextAnswer.the-variants.{Read, Refused}
 use Rattle.text.specs.Text.{on, dateOr, monthDayOf, readingOf, readAnswer, fieldsRead, readText, textResults, dateAs, fieldsOf}
-use Rattle.text.specs.Promise.{Sized, Names, Exactly}
+use Rattle.text.specs.Promise.{Sized, Names, ReadExactly}
 use Rattle.labels.proofs.Admitted.{Admitted, admitted-to}
 
 -- ---- length
@@ -107,6 +109,20 @@ fields-back y h mi s k u (Named m d) e = refl
 
 -- ---- reading
 
+-- SHAPE is given neither for scale and table nor for fields
+past-scale : (a b : Bool) (v : TextAnswer) → textResults (refusing Refused ((a, ASK) ∷ (b, TABLE) ∷ []) v) .0 ≡ 2 → (a ≡ true) × (b ≡ true) × (textResults v .0 ≡ 2)
+past-scale true true v e = (refl, refl, e)
+past-scale true false v e = absurd (omega arith)
+past-scale false b v e = absurd (omega arith)
+
+not-shape : (a b c d f : Bool) (x : ℤ) (z : Stamp) → textResults (refusing Refused ((a, YEAR) ∷ (b, DATE) ∷ (c, DATE) ∷ (d, CLOCK) ∷ (f, NOSECOND) ∷ []) (Read x z)) .0 ≡ 2 → ⊥
+not-shape true true true true true x z e = omega arith
+not-shape true true true true false x z e = omega arith
+not-shape true true true false f x z e = omega arith
+not-shape true true false d f x z e = omega arith
+not-shape true false c d f x z e = omega arith
+not-shape false b c d f x z e = omega arith
+
 module _ (t : Table) (k : ℕ) (text : List ℕ) where
   pub reads-as : (x : ℤ) (r : Reading) → Names t k text x r → readText t k text ≡ Read x (stamp (scaleOf k) r)
   unfolding readText
@@ -114,11 +130,11 @@ module _ (t : Table) (k : ℕ) (text : List ℕ) where
       let o = offsetsOf t (scaleOf k) in
       let most = mostSecond (scaleOf k) in
       let a = admitted-to o most r (n .reads .is-admitted) in
-      let s = n .shows in
-      let w = well-formed o most r a (most-sixty (scaleOf k) .1) (s .picture) (s .digits) (s .a-picture) (s .a-number) (s .enough) in
-      none-refused Refused (scaleTests t k) _ (join (le-leb k 3 (n .known)) (join (n .good) refl))
-      ∙ ap (fieldsRead t (scaleOf k)) (ap readFields (s .text-is) ∙ back (fieldsOf (s .picture) (s .digits) r) w)
-      ∙ ap (readAnswer t (scaleOf k)) (reading-back o most r a (most-sixty (scaleOf k) .1) (s .picture) (s .digits) (s .a-picture))
+      let g = n .known in
+      let w = well-formed o most r a (most-sixty (scaleOf k) .1) (n .picture) (n .digits) (g .a-picture) (g .a-number) (n .enough) in
+      none-refused Refused (scaleTests t k) _ (join (le-leb k 3 (g .a-scale)) (join (g .a-table) refl))
+      ∙ ap (fieldsRead t (scaleOf k)) (ap readFields (n .text-is) ∙ back (fieldsOf (n .picture) (n .digits) r) w)
+      ∙ ap (readAnswer t (scaleOf k)) (reading-back o most r a (most-sixty (scaleOf k) .1) (n .picture) (n .digits) (g .a-picture))
       ∙ none-refused Refused (labelTests o most r) _ (n .reads .is-admitted)
       ∙ ap (λ (y : ℤ). Read y (stamp (scaleOf k) r)) (n .reads .instant-is)
 
@@ -142,10 +158,12 @@ module _ (t : Table) (k : ℕ) (text : List ℕ) where
       let a = admitted-to o most r (q .0) in
       let names : Names t k text x r =
       record {
-        known = known;
-        good = good;
-        shows = record { picture = picture-of (f .date); digits = f .digits; a-picture = a-picture (f .date); a-number = w .0 .digits; enough = w .0 .shown; text-is = w .1 ∙ ap pictureText (sym (fields-back (f .year) (f .hour) (f .minute) (f .second) (f .digits) (f .micro) (f .date) (a .exists .month-low))) };
+        picture = picture-of (f .date);
+        digits = f .digits;
+        known = record { a-scale = known; a-picture = a-picture (f .date); a-number = w .0 .digits; a-table = good };
         reads = record { is-admitted = q .0; instant-is = is-instant (q .1) };
+        enough = w .0 .shown;
+        text-is = w .1 ∙ ap pictureText (sym (fields-back (f .year) (f .hour) (f .minute) (f .second) (f .digits) (f .micro) (f .date) (a .exists .month-low)));
       } in
       (ap (λ (y : Stamp). y .scale) (sym same), subst (λ (y : Stamp). Names t k text x (y .reading)) same names)
     where
@@ -165,5 +183,36 @@ module _ (t : Table) (k : ℕ) (text : List ℕ) where
       go known good (Shows f) q e = judged f x z known good (shown text f q) e
       go known good NoPicture q e = absurd (no-read x z SHAPE e)
 
-  pub exactly : Exactly t k text
-  exactly = record { only = λ x z e. only x z (given (readText t k text) x z e); each = λ x r n. ap textResults (reads-as x r n) }
+  -- the picture of fields
+  judged-as : (f : Fields) → WellFormed f → text ≡ pictureText f → readText t k text ≡ refusing Refused (scaleTests t k) (readAnswer t (scaleOf k) (readingOf f))
+  unfolding readText
+  judged-as f w e = ap (λ (a : FieldsAnswer). refusing Refused (scaleTests t k) (fieldsRead t (scaleOf k) a)) (ap readFields e ∙ back f w)
+
+  -- no picture
+  is-shape : (k ≤ 3) × (accepted t ≡ true) × ((f : Fields) → WellFormed f → text ≡ pictureText f → ⊥) → textResults (readText t k text) .0 ≡ 2
+  unfolding readText
+  is-shape h = ap (λ (a : TextAnswer). textResults a .0) (none-refused Refused (scaleTests t k) _ (join (le-leb k 3 (h .0)) (join (h .1) refl))) ∙ go (readFields text) refl
+    where
+      go : (a : FieldsAnswer) → readFields text ≡ a → textResults (fieldsRead t (scaleOf k) a) .0 ≡ 2
+      go (Shows f) q = let s = shown text f q in absurd (h .2 f (s .0) (s .1))
+      go NoPicture q = refl
+
+  was-shape : textResults (readText t k text) .0 ≡ 2 → (k ≤ 3) × (accepted t ≡ true) × ((f : Fields) → WellFormed f → text ≡ pictureText f → ⊥)
+  unfolding readText
+  was-shape e =
+      let q = past-scale (leb k 3) (accepted t) (fieldsRead t (scaleOf k) (readFields text)) e in (
+        leb-true k 3 (q .0),
+        q .1,
+        λ f w p.
+            let r = readingOf f in
+            not-shape (realYear (r .label)) (realMonth (r .label)) (realDay (r .label)) (realClock (mostSecond (scaleOf k)) r) (hasSecond (offsetsOf t (scaleOf k)) (r .label)) (instantFor t (scaleOf k) r) (stamp (scaleOf k) r)
+            (ap (λ (a : FieldsAnswer). textResults (fieldsRead t (scaleOf k) a) .0) (sym (ap readFields p ∙ back f w)) ∙ q .2),
+      )
+
+  pub read-exactly : ReadExactly t k text
+  read-exactly =
+      record {
+        success = λ x z. (λ e. only x z (given (readText t k text) x z e), λ n. ap textResults (reads-as x (z .reading) (n .1)) ∙ ap (λ (s : Scale). (0, x, stamp s (z .reading))) (sym (n .0)));
+        shape = (was-shape, is-shape);
+        fields = λ f w e. ap textResults (judged-as f w e);
+      }

@@ -1,24 +1,29 @@
--- What is promised of text, in the scope's numbers: how long a text is, what each accepted text is read as, and that what is written reads back.
--- Nothing here speaks of the reader's own steps; which texts have a picture is promised by `pictures`.
+-- What is promised of text, in the scope's numbers: how long a text is, what each text is read as or refused for, what is written for each instant, and that it reads back.
+-- Nothing here speaks of the reader's own steps, or of the way from an instant to its stamp.
 -- Assumes nothing.
 use mathlib.Core.Path.{_≡_}
 use mathlib.Core.Bool.{true, cond}
 use mathlib.Core.List.{List, [], _∷_}
-use Prim.Native.Nat.{ℕ, _+_, _-_, _%_, _^_, _≤_}
+use mathlib.Core.Logic.{_↔_}
+use Prim.Native.Nat.{ℕ, _+_, _-_, _%_, _^_, _≤_, _<_}
 use lib.Dec.{eqb}
 use lib.IntN.{ℤ}
 use lib.ListN.{length, take, getD}
 use lib.Signed.{_≤ℤ_}
+use Rattle.laws.specs.Placed.{over}
+use Rattle.answer.specs.Refusals.{refusing}
 use Rattle.answer.specs.Buffers.{writtenResults}
 use Rattle.leap.specs.declared.Table.{Table}
 use Rattle.leap.specs.Leap.{accepted}
-use Rattle.stamp.specs.declared.Scale.{Scale}
 use Rattle.labels.specs.declared.Reading.{Reading}
+use Rattle.pictures.specs.declared.Fields.{Fields}
+use Rattle.pictures.specs.Pictures.{pictureText, WellFormed}
+use Rattle.stamp.specs.declared.Scale.{Scale}
 use Rattle.stamp.specs.declared.Stamp.{Stamp}
-use Rattle.stamp.specs.Scales.{scaleOf}
-use Rattle.stamp.specs.Stamps.{stampOf, stampResults}
-use Rattle.stamp.specs.Promise.{Reads, stamp}
-use Rattle.text.specs.Text.{textOf, readText, textResults, writeText, writeTextAfter}
+use Rattle.stamp.specs.Scales.{scaleOf, scaleTests}
+use Rattle.stamp.specs.Promise.{Reads}
+use Rattle.text.specs.declared.TextAnswer.the-variants.{Refused}
+use Rattle.text.specs.Text.{readingOf, readAnswer, readText, textResults, textOf, writeText, writeTextAfter}
 
 -- ---- length
 
@@ -26,32 +31,48 @@ use Rattle.text.specs.Text.{textOf, readText, textResults, writeText, wr
 abbrev pub Sized : Type 0
 Sized = (p digits : ℕ) (r : Reading) → p ≤ 2 → digits ≤ 6 → length (textOf p digits r) ≡ getD (19 ∷ 17 ∷ 20 ∷ []) p 0 + cond (eqb digits 0) 0 (1 + digits)
 
+-- scale, picture and number of digits are known, and the table is accepted
+pub record Known (t : Table) (k p digits : ℕ) : Type 0 where
+  pub a-scale : k ≤ 3
+  pub a-picture : p ≤ 2
+  pub a-number : digits ≤ 6
+  pub a-table : accepted t ≡ true
+
 -- ---- reading
 
--- the text is that of the reading, in some picture, with digits enough for its microsecond
-pub record Shows (text : List ℕ) (r : Reading) : Type 0 where
+-- under table t on scale k the text is read with number 0, as the instant x and the stamp z
+abbrev pub AcceptedAs : Table → ℕ → List ℕ → ℤ → Stamp → Type 0
+AcceptedAs t k text x z = textResults (readText t k text) ≡ (0, x, z)
+
+-- the text names the moment r, which exists on scale k and is the instant x: it is that reading's, in some picture, with digits enough for its microsecond
+pub record Names (t : Table) (k : ℕ) (text : List ℕ) (x : ℤ) (r : Reading) : Type 0 where
   pub picture : ℕ
   pub digits : ℕ
-  pub a-picture : picture ≤ 2
-  pub a-number : digits ≤ 6
+  pub known : Known t k picture digits
+  pub reads : Reads t (scaleOf k) r x
   pub enough : r .micro % 10 ^ (6 - digits) ≡ 0
   pub text-is : text ≡ textOf picture digits r
 
--- read under table t on scale k the text gives number 0, the instant x and the stamp z
-abbrev pub Gives : Table → ℕ → List ℕ → ℤ → Stamp → Type 0
-Gives t k text x z = textResults (readText t k text) ≡ (0, x, z)
+pub record ReadExactly (t : Table) (k : ℕ) (text : List ℕ) : Type 0 where
+  -- a text is accepted exactly when it names a moment, and then as that moment
+  pub success : (x : ℤ) (z : Stamp) → AcceptedAs t k text x z ↔ ((z .scale ≡ scaleOf k) × Names t k text x (z .reading))
+  -- SHAPE, 2, is for a text that is the picture of no fields
+  pub shape : (textResults (readText t k text) .0 ≡ 2) ↔ ((k ≤ 3) × (accepted t ≡ true) × ((f : Fields) → WellFormed f → text ≡ pictureText f → ⊥))
+  -- for one that is the picture of fields, scale and table are judged and then these, as a stamp's fields are
+  pub fields : (f : Fields) → WellFormed f → text ≡ pictureText f → textResults (readText t k text) ≡ textResults (refusing Refused (scaleTests t k) (readAnswer t (scaleOf k) (readingOf f)))
 
--- on scale k the text names the moment r, which exists there and is the instant x
-pub record Names (t : Table) (k : ℕ) (text : List ℕ) (x : ℤ) (r : Reading) : Type 0 where
-  pub known : k ≤ 3
-  pub good : accepted t ≡ true
-  pub shows : Shows text r
-  pub reads : Reads t (scaleOf k) r x
+-- ---- writing
 
--- a text is accepted exactly when it names a moment, and then as that moment
-pub record Exactly (t : Table) (k : ℕ) (text : List ℕ) : Type 0 where
-  pub only : (x : ℤ) (z : Stamp) → Gives t k text x z → (z .scale ≡ scaleOf k) × Names t k text x (z .reading)
-  pub each : (x : ℤ) (r : Reading) → Names t k text x r → Gives t k text x (stamp (scaleOf k) r)
+pub record WrittenExactly (t : Table) (k : ℕ) (x : ℤ) (p digits : ℕ) (buffer : List ℕ) : Type 0 where
+  -- success, 0: a reading has the instant, and the buffer has room for its text
+  pub success : (writtenResults (writeText t x p k digits buffer) .0 ≡ 0) ↔ (Known t k p digits × ((r : Reading) × Reads t (scaleOf k) r x × (length (textOf p digits r) ≤ length buffer)))
+  -- ROOM, 1: a reading has the instant, and its text is longer than the buffer
+  pub room : (writtenResults (writeText t x p k digits buffer) .0 ≡ 1) ↔ (Known t k p digits × ((r : Reading) × Reads t (scaleOf k) r x × (length buffer < length (textOf p digits r))))
+  -- RANGE, 7: no reading has the instant
+  pub range : (writtenResults (writeText t x p k digits buffer) .0 ≡ 7) ↔ (Known t k p digits × ((r : Reading) → Reads t (scaleOf k) r x → ⊥))
+  -- what a success is: the length of the text of the instant's reading, its bytes, and past them the buffer's own
+  pub as-text : (r : Reading) → Reads t (scaleOf k) r x → writtenResults (writeText t x p k digits buffer) .0 ≡ 0
+      → (writtenResults (writeText t x p k digits buffer) ≡ (0, length (textOf p digits r))) × (writeTextAfter t x p k digits buffer ≡ over (textOf p digits r) buffer)
 
 -- ---- reading what is written
 
@@ -69,15 +90,15 @@ pub record Latest (t : Table) (s : Scale) (digits : ℕ) (x y : ℤ) : Type 0 wh
 
 -- in any picture, on any scale, in any buffer that has room
 pub record Back (t : Table) (k : ℕ) : Type 0 where
-  -- with six digits the text reads back as the instant, with its stamp
-  pub six : (x : ℤ) (p : ℕ) (buffer : List ℕ) (n : ℕ) → writtenResults (writeText t x p k 6 buffer) ≡ (0, n)
-      → (z : Stamp) × (stampResults (stampOf t x k) ≡ (0, z)) × Gives t k (take n (writeTextAfter t x p k 6 buffer)) x z
+  -- what is written with six digits reads back as the instant
+  pub six : (x : ℤ) (p : ℕ) (buffer : List ℕ) (n : ℕ) → writtenResults (writeText t x p k 6 buffer) ≡ (0, n) → (z : Stamp) × AcceptedAs t k (take n (writeTextAfter t x p k 6 buffer)) x z
   -- with any number of digits as the last instant not after it that they can show
   pub cut : (x : ℤ) (p digits : ℕ) (buffer : List ℕ) (n : ℕ) → writtenResults (writeText t x p k digits buffer) ≡ (0, n)
-      → (y : ℤ) × (z : Stamp) × Gives t k (take n (writeTextAfter t x p k digits buffer)) y z × Latest t (scaleOf k) digits x y
+      → (y : ℤ) × (z : Stamp) × AcceptedAs t k (take n (writeTextAfter t x p k digits buffer)) y z × Latest t (scaleOf k) digits x y
 
 -- ---- all of it, for each table and scale number
 
 pub record Promised (t : Table) (k : ℕ) : Type 0 where
-  pub exactly : (text : List ℕ) → Exactly t k text
+  pub read : (text : List ℕ) → ReadExactly t k text
+  pub written : (x : ℤ) (p digits : ℕ) (buffer : List ℕ) → WrittenExactly t k x p digits buffer
   pub back : Back t k
