@@ -17,7 +17,7 @@ use Rattle.labels.specs.declared.Reading.{Reading}
 use Rattle.stamp.specs.declared.Stamp.{Stamp}
 use Rattle.stamp.specs.declared.Scale.the-variants.{Utc}
 use Rattle.labels.specs.Labels.{Offsets, realYear, realMonth, realDay, realClock, hasSecond, labelTests, admitted, whole}
-use Rattle.stamp.specs.Stamps.{instantFor}
+use Rattle.stamp.specs.Scales.{instantFor}
 use Rattle.stamp.specs.Promise.{stamp}
 use Rattle.clock.specs.Promise.{admits}
 use Rattle.pictures.specs.declared.Fields.{Fields}

@@ -21,7 +21,8 @@ use Rattle.labels.specs.declared.Reading.{Reading}
 use Rattle.stamp.specs.declared.InstantAnswer.the-variants.{At, Refused}
 use Rattle.labels.specs.Labels.{labelTests, monthOf, whole}
 use Rattle.labels.specs.Seconds.{microOf, secondOf}
-use Rattle.stamp.specs.Stamps.{instantFor, instantOf}
+use Rattle.stamp.specs.Stamps.{instantOf}
+use Rattle.stamp.specs.Scales.{instantFor}
 use Rattle.stamp.specs.Promise.{stamp}
 use Rattle.stamp.proofs.Scales.{instant-is}
 use Rattle.stamp.proofs.Promise.{stamp-back, stamp-given}

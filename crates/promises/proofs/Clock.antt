@@ -19,8 +19,8 @@ use Rattle.labels.proofs.Years.{axis-is}
 use Rattle.labels.proofs.Uniform.{first-micro}
 use Rattle.stamp.specs.declared.Scale.the-variants.{Utc}
 use Rattle.stamp.specs.declared.InstantAnswer.the-variants.{At, Refused}
-use Rattle.stamp.specs.Scales.{scaleTests, toInstant}
-use Rattle.stamp.specs.Stamps.{instantFor, instantOf, instantResults, stampResults}
+use Rattle.stamp.specs.Scales.{scaleTests, toInstant, instantFor}
+use Rattle.stamp.specs.Stamps.{instantOf, instantResults, stampResults}
 use Rattle.stamp.specs.Promise.{GivesInstant}
 use Rattle.stamp.proofs.Scales.{to-instant-is}
 use Rattle.stamp.proofs.Promise.{at-instant, stamp-back}

@@ -21,8 +21,7 @@ use Rattle.labels.proofs.Years.{days-last}
 use Rattle.labels.proofs.Uniform.{first-micro}
 use Rattle.stamp.specs.declared.Scale.{Scale}
 use Rattle.stamp.specs.declared.Scale.the-variants.{Utc, Tai, Tdt, Gps}
-use Rattle.stamp.specs.Scales.{fixed, offsetsOf}
-use Rattle.stamp.specs.Stamps.{instantFor}
+use Rattle.stamp.specs.Scales.{fixed, offsetsOf, instantFor}
 use Rattle.stamp.proofs.Scales.{instant-is}
 use Rattle.julian.specs.Midnight.{midnightOf}
 use Rattle.julian.proofs.Midnight.{midnight-value}

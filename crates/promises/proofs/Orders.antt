@@ -38,8 +38,9 @@ use Rattle.labels.proofs.Uniform.{first-micro, last-micro, reading-stands, read
 use Rattle.stamp.specs.declared.Scale.{Scale}
 use Rattle.stamp.specs.declared.InstantAnswer.the-variants.{At, Refused as NoInstant}
 use Rattle.stamp.specs.declared.StampAnswer.the-variants.{Stamped, Refused as NoStamp}
-use Rattle.stamp.specs.Scales.{scaleOf, scaleTests, offsetsOf, mostSecond, toInstant, toAxis}
-use Rattle.stamp.specs.Stamps.{instantFor, instantOf, instantResults, inRange, stampAt, stampOf, stampResults, showingTests, instantShowing}
+use Rattle.stamp.specs.Scales.{scaleOf, scaleTests, offsetsOf, mostSecond, toInstant, toAxis, instantFor}
+use Rattle.stamp.specs.Stamps.{instantOf, instantResults, stampOf, stampResults}
+use Rattle.stamp.specs.Back.{inRange, stampAt, showingTests, instantShowing}
 use Rattle.stamp.specs.Promise.{stamp}
 use Rattle.stamp.proofs.Scales.{to-instant-is, to-axis-is}
 use Rattle.clock.specs.declared.TickAnswer.{TickAnswer}

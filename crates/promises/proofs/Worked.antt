@@ -24,7 +24,7 @@ use Rattle.labels.proofs.Uniform.{first-micro}
 use Rattle.stamp.specs.declared.Scale.{Scale}
 use Rattle.stamp.specs.declared.Stamp.{Stamp}
 use Rattle.stamp.specs.Scales.{scaleOf, scaleTests, offsetsOf, mostSecond, toInstant, toAxis}
-use Rattle.stamp.specs.Stamps.{inRange, stampAt}
+use Rattle.stamp.specs.Back.{inRange, stampAt}
 use Rattle.stamp.specs.Promise.{stamp}
 use Rattle.stamp.proofs.Cycles.{quickInstant, quick-instant}
 use Rattle.block.specs.Desk.{blockB, blockT, blockN, tableT, tableN}

@@ -12,7 +12,7 @@ use Rattle.labels.specs.declared.Reading.{Reading}
 use Rattle.labels.specs.Labels.{label, at, monthOf}
 use Rattle.labels.specs.Seconds.{secondOf, microOf, firstMonth, lastMonth, endMonth, first}
 use Rattle.stamp.specs.declared.Scale.the-variants.{Utc, Tai, Tdt, Gps}
-use Rattle.stamp.specs.Stamps.{instantFor}
+use Rattle.stamp.specs.Scales.{instantFor}
 use Rattle.julian.specs.Fraction.{day}
 use Rattle.julian.specs.Midnight.{midnightOf}
 

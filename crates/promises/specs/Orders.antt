@@ -23,8 +23,8 @@ use Rattle.labels.specs.declared.Reading.{Reading}
 use Rattle.labels.specs.Labels.{uniform, whole, realYear, realMonth, realDay, realClock, hasSecond, admitted}
 use Rattle.labels.specs.Seconds.{microOf, first, last}
 use Rattle.stamp.specs.declared.Scale.{Scale}
-use Rattle.stamp.specs.Scales.{scaleOf, knownScale, offsetsOf, mostSecond}
-use Rattle.stamp.specs.Stamps.{instantFor, instantOf, instantResults, stampOf, stampResults}
+use Rattle.stamp.specs.Scales.{scaleOf, knownScale, offsetsOf, mostSecond, instantFor}
+use Rattle.stamp.specs.Stamps.{instantOf, instantResults, stampOf, stampResults}
 use Rattle.clock.specs.Clock.{start, tick, tickResults}
 use Rattle.block.specs.Blocks.{blockOf, writeBlock}
 use Rattle.pictures.specs.declared.Date.{Date}

@@ -22,8 +22,9 @@ use Rattle.stamp.specs.declared.InstantAnswer.the-variants.{At, Refused as Inst
 use Rattle.stamp.specs.declared.StampAnswer.{StampAnswer}
 use Rattle.stamp.specs.declared.StampAnswer.the-variants.{Stamped, Refused as StampRefused}
 use Rattle.labels.specs.Labels.{monthOf, labelTests}
-use Rattle.stamp.specs.Scales.{scaleOf, offsetsOf, mostSecond}
-use Rattle.stamp.specs.Stamps.{instantFor, instantIn, inRange, stampAt, stampOf}
+use Rattle.stamp.specs.Scales.{scaleOf, offsetsOf, mostSecond, instantFor}
+use Rattle.stamp.specs.Stamps.{instantIn, stampOf}
+use Rattle.stamp.specs.Back.{inRange, stampAt}
 use Rattle.stamp.specs.Promise.{Reads, stamp}
 use Rattle.labels.proofs.Admitted.{admitted-to}
 use Rattle.stamp.proofs.Promise.{instant-given, instant-back}

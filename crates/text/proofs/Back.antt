@@ -21,8 +21,8 @@ use Rattle.labels.specs.declared.Reading.{Reading}
 use Rattle.stamp.specs.declared.Stamp.{Stamp}
 use Rattle.labels.specs.Labels.{Offsets, monthOf, realYear, realMonth, realDay, realClock, hasSecond, admitted}
 use Rattle.labels.specs.Seconds.{microOf}
-use Rattle.stamp.specs.Scales.{scaleOf, offsetsOf, mostSecond}
-use Rattle.stamp.specs.Stamps.{instantFor, axisCount}
+use Rattle.stamp.specs.Scales.{scaleOf, offsetsOf, mostSecond, instantFor}
+use Rattle.stamp.specs.Back.{axisCount}
 use Rattle.stamp.specs.Promise.{Reads, stamp}
 use Rattle.labels.proofs.Facts.{clock-to}
 use Rattle.stamp.proofs.Scales.{instant-is}

@@ -35,8 +35,7 @@ use Rattle.labels.specs.declared.Reading.{Reading}
 use Rattle.stamp.specs.declared.Scale.{Scale}
 use Rattle.stamp.specs.declared.Stamp.{Stamp}
 use Rattle.labels.specs.Labels.{Offsets, monthOf, realYear, realMonth, realDay, realClock, hasSecond, labelTests}
-use Rattle.stamp.specs.Scales.{scaleOf, scaleTests, offsetsOf, mostSecond}
-use Rattle.stamp.specs.Stamps.{instantFor}
+use Rattle.stamp.specs.Scales.{scaleOf, scaleTests, offsetsOf, mostSecond, instantFor}
 use Rattle.stamp.specs.Promise.{stamp}
 use Rattle.stamp.proofs.Scales.{most-sixty}
 use Rattle.text.specs.declared.TextAnswer.{TextAnswer}

@@ -24,7 +24,8 @@ use Rattle.stamp.specs.declared.Stamp.{Stamp}
 use Rattle.stamp.specs.declared.InstantAnswer.the-variants.{At, Refused as InstantRefused}
 use Rattle.stamp.specs.declared.StampAnswer.the-variants.{Refused as StampRefused}
 use Rattle.stamp.specs.Scales.{scaleOf, offsetsOf, mostSecond}
-use Rattle.stamp.specs.Stamps.{instantOf, inRange, stampAt, stampOf}
+use Rattle.stamp.specs.Stamps.{instantOf, stampOf}
+use Rattle.stamp.specs.Back.{inRange, stampAt}
 use Rattle.stamp.specs.Promise.{Reads, stamp}
 use Rattle.stamp.proofs.Promise.{stamp-given, stamp-back}
 use Rattle.text.specs.Text.{textOf, writeTests, textAt, writeText, writeTextAfter}

@@ -29,8 +29,9 @@ use Rattle.labels.specs.declared.Label.{Label}
 use Rattle.labels.specs.declared.Reading.{Reading}
 use Rattle.stamp.specs.declared.Stamp.{Stamp}
 use Rattle.labels.specs.Labels.{label, monthOf, labelTests}
-use Rattle.stamp.specs.Scales.{scaleOf, knownScale, scaleTests, offsetsOf, mostSecond}
-use Rattle.stamp.specs.Stamps.{instantFor, inRange, stampAt, noStamp}
+use Rattle.stamp.specs.Scales.{scaleOf, knownScale, scaleTests, offsetsOf, mostSecond, instantFor}
+use Rattle.stamp.specs.Stamps.{noStamp}
+use Rattle.stamp.specs.Back.{inRange, stampAt}
 use Rattle.stamp.specs.Promise.{stamp}
 use Rattle.text.specs.declared.TextAnswer.{TextAnswer}
 use Rattle.text.specs.declared.TextAnswer.the-variants.{Read, Refused}
