@@ -1,5 +1,7 @@
 pub mod Answers
 pub mod Settled
+pub mod SettledInC
+pub mod SettledParts
 pub mod Refused
 pub mod Stamps
 pub mod Text
