@@ -2,3 +2,4 @@ pub mod Results
 pub mod Words
 pub mod Laid
 pub mod Bits
+pub mod Settled

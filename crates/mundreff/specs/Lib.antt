@@ -1,3 +1,4 @@
 pub mod Words
 pub mod Answers
 pub mod Calls
+pub mod Settles

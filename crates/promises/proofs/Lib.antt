@@ -1,5 +1,7 @@
 pub mod Answers
 pub mod Settled
+pub mod SettledInC
+pub mod SettledParts
 pub mod Orders
 pub mod Constants
 pub mod Refused

@@ -1,42 +1,21 @@
--- Contracts that are equations settle their results.
+-- Every call's contract is an equation, or one for the answer and one for the bytes.
 -- Assumes nothing.
-use mathlib.Core.Path.{_≡_, sym, ap₂, _∙_}
-use Rattle.promises.specs.Settled.{Settled, SettledInC}
-
-same : {A : Type 0} {x : A} (a b : A) → a ≡ x → b ≡ x → a ≡ b
-same a b p q = p ∙ sym q
-
-both : {A B : Type 0} {w : A × B} (a b : A × B) → (a .0 ≡ w .0) × (a .1 ≡ w .1) → (b .0 ≡ w .0) × (b .1 ≡ w .1) → a ≡ b
-both a b p q = ap₂ (λ x y. (x, y)) (same _ _ (p .0) (q .0)) (same _ _ (p .1) (q .1))
+use Rattle.mundreff.proofs.Settled.{equal, each}
+use Rattle.promises.specs.Settled.{Settled}
 
 pub settled : Settled
 settled =
     record {
-      read-block = λ s. same;
-      write-block = λ t buffer. both;
-      instant-of = λ t k r. same;
-      stamp-of = λ t x k. same;
-      read-text = λ t k s. same;
-      write-text = λ t x p k d buffer. both;
-      write-julian = λ t x k. same;
-      read-julian = λ t k p. same;
-      start = λ t. same;
-      tick = λ t l. same;
-      bulletin-c = same;
-    }
-
-pub settled-in-c : SettledInC
-settled-in-c =
-    record {
-      bulletin-c = both;
-      read-block = λ s. same;
-      write-block = λ t buffer. both;
-      instant-of = λ t z. same;
-      stamp-of = λ t x k. same;
-      read-text = λ t k s. same;
-      write-text = λ t x p k d buffer. both;
-      write-julian = λ t x k. same;
-      read-julian = λ t k m f. same;
-      start = λ t. same;
-      tick-in-place = λ t l. same;
+      bulletin-c = λ k. equal;
+      read-block = λ s k. equal;
+      write-block = λ t out k. each;
+      instant-of = λ t scale r k. equal;
+      stamp-of = λ t x scale k. equal;
+      read-text = λ t scale s k. equal;
+      write-text = λ t x p scale d out k. each;
+      write-julian = λ t x scale k. equal;
+      read-julian = λ t scale date k. equal;
+      clock-starts = λ t k. equal;
+      clock-ticks = λ t l k. equal;
+      list = λ input out k. each;
     }

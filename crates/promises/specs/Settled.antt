@@ -1,69 +1,54 @@
--- Each call's contract settles everything: two results that it allows on one input are equal, with every byte of a lent buffer afterwards.
--- Each line repeats the `ensures` of its call, over the very definitions; a reader can hold one against the other.
+-- Each call's own contract settles it: nothing is asked for, and the answer, with every byte of a lent buffer afterwards, is the one that the definition gives and no other.
+-- `clock-start` and so on are the contracts themselves, as their crates pass them on: one that says less does not settle its call, and this breaks.
 -- Assumes nothing.
-use mathlib.Core.Path.{_≡_}
-use mathlib.Core.List.{List}
+use mathlib.Core.List.{List, []}
 use Prim.Native.Nat.{ℕ}
 use lib.IntN.{ℤ}
-use lib.Ieee.{Float}
-use Rattle.answer.specs.declared.Written.{Written}
-use Rattle.answer.specs.Buffers.{writtenResults}
+use denote.Ref.{now}
+use Rattle.answer.specs.Buffers.{written, bufferAfter}
 use Rattle.leap.specs.declared.Table.{Table}
 use Rattle.leap.specs.Leap.{bulletinC}
 use Rattle.labels.specs.declared.Label.{Label}
 use Rattle.labels.specs.declared.Reading.{Reading}
-use Rattle.stamp.specs.declared.InstantAnswer.{InstantAnswer}
-use Rattle.stamp.specs.declared.StampAnswer.{StampAnswer}
-use Rattle.stamp.specs.Stamps.{instantOf, instantResults, stampOf}
-use Rattle.clock.specs.declared.TickAnswer.{TickAnswer}
+use Rattle.stamp.specs.Stamps.{instantOf, stampOf}
 use Rattle.clock.specs.Clock.{start, tick}
-use Rattle.leap.specs.declared.TableRead.{TableRead}
 use Rattle.block.specs.Blocks.{writeBlock, writeBlockAfter}
 use Rattle.block.specs.Reading.{readBlock}
-use Rattle.text.specs.declared.TextAnswer.{TextAnswer}
 use Rattle.text.specs.Text.{readText, writeText, writeTextAfter}
-use Rattle.julian.specs.declared.JulianAnswer.{JulianAnswer}
 use Rattle.julian.specs.declared.JulianDate.{JulianDate}
 use Rattle.julian.specs.Dates.{writeJulian, readJulian}
-use Rattle.mundreff.specs.Words.{tableFrom, tableWords}
-use Rattle.mundreff.specs.Answers.{tableNumbers, stampNumbers, textNumbers, labelNumbers, pairNumbers}
-use Rattle.mundreff.specs.Calls.{labelFrom, scaleFrom, readingFrom, pair}
+use Rattle.listing.specs.Listing.{listed}
+use Rattle.mundreff.specs.Settles.{_&_, Lent, _becomes_, Gives, Leaves}
+use Rattle.leap.proofs.bulletin_c.Reads as leap-bulletin-c
+use Rattle.block.proofs.read_block.Reads as block-read-block
+use Rattle.block.proofs.write_block.Reads as block-write-block
+use Rattle.stamp.proofs.instant_of.Reads as stamp-instant-of
+use Rattle.stamp.proofs.stamp_of.Reads as stamp-stamp-of
+use Rattle.text.proofs.read_text.Reads as text-read-text
+use Rattle.text.proofs.write_text.Reads as text-write-text
+use Rattle.julian.proofs.write_julian.Reads as julian-write-julian
+use Rattle.julian.proofs.read_julian.Reads as julian-read-julian
+use Rattle.clock.proofs.start.Reads as clock-start
+use Rattle.clock.proofs.tick.Reads as clock-tick
+use Rattle.listing.proofs.list.Reads as listing-list
 
--- at most one value is allowed
-abbrev pub AtMostOne : {A : Type 0} → (A → Type 0) → Type 0
-AtMostOne {A} allowed = (a b : A) → allowed a → allowed b → a ≡ b
-
--- a writer's answer, with its lent buffer afterwards
-abbrev pub Wrote : Type 0
-Wrote = Written × List ℕ
-
--- the same in C: the number that is returned, the length and the buffer
-abbrev pub WroteInC : Type 0
-WroteInC = (ℕ × ℕ) × List ℕ
-
+-- the calls of the scope, and what `ticks` prints for an input
 pub record Settled : Type 0 where
-  pub read-block : (block : List ℕ) → AtMostOne (λ (r : TableRead). r ≡ readBlock block)
-  pub write-block : (t : Table) (buffer : List ℕ) → AtMostOne (λ (r : Wrote). (r .0 ≡ writeBlock t buffer) × (r .1 ≡ writeBlockAfter t buffer))
-  pub instant-of : (t : Table) (scale : ℕ) (r : Reading) → AtMostOne (λ (a : InstantAnswer). a ≡ instantOf t scale r)
-  pub stamp-of : (t : Table) (instant : ℤ) (scale : ℕ) → AtMostOne (λ (a : StampAnswer). a ≡ stampOf t instant scale)
-  pub read-text : (t : Table) (scale : ℕ) (text : List ℕ) → AtMostOne (λ (a : TextAnswer). a ≡ readText t scale text)
-  pub write-text : (t : Table) (instant : ℤ) (picture scale digits : ℕ) (buffer : List ℕ) → AtMostOne (λ (r : Wrote). (r .0 ≡ writeText t instant picture scale digits buffer) × (r .1 ≡ writeTextAfter t instant picture scale digits buffer))
-  pub write-julian : (t : Table) (instant : ℤ) (scale : ℕ) → AtMostOne (λ (a : JulianAnswer). a ≡ writeJulian t instant scale)
-  pub read-julian : (t : Table) (scale : ℕ) (date : JulianDate) → AtMostOne (λ (a : InstantAnswer). a ≡ readJulian t scale date)
-  pub start : (t : Table) → AtMostOne (λ (a : TickAnswer). a ≡ start t)
-  pub tick : (t : Table) (l : Label) → AtMostOne (λ (a : TickAnswer). a ≡ tick t l)
-  pub bulletin-c : AtMostOne (λ (t : Table). t ≡ bulletinC)
-
--- the calls of the C interface, over what is handed over as words: the number that each returns, and everything that it writes
-pub record SettledInC : Type 0 where
-  pub bulletin-c : AtMostOne (λ (r : ℕ × List ℕ). (r .0 ≡ 0) × (r .1 ≡ tableWords bulletinC))
-  pub read-block : (block : List ℕ) → AtMostOne (λ (r : ℕ × ℕ × List ℕ). r ≡ tableNumbers (readBlock block))
-  pub write-block : (table buffer : List ℕ) → AtMostOne (λ (r : WroteInC). (r .0 ≡ writtenResults (writeBlock (tableFrom table) buffer)) × (r .1 ≡ writeBlockAfter (tableFrom table) buffer))
-  pub instant-of : (table stamp : List ℕ) → AtMostOne (λ (r : ℕ × ℤ). r ≡ instantResults (instantOf (tableFrom table) (scaleFrom stamp) (readingFrom stamp)))
-  pub stamp-of : (table : List ℕ) (instant : ℤ) (scale : ℕ) → AtMostOne (λ (r : ℕ × List ℕ). r ≡ stampNumbers (stampOf (tableFrom table) instant scale))
-  pub read-text : (table : List ℕ) (scale : ℕ) (text : List ℕ) → AtMostOne (λ (r : ℕ × ℤ × List ℕ). r ≡ textNumbers (readText (tableFrom table) scale text))
-  pub write-text : (table : List ℕ) (instant : ℤ) (picture scale digits : ℕ) (buffer : List ℕ) → AtMostOne (λ (r : WroteInC). (r .0 ≡ writtenResults (writeText (tableFrom table) instant picture scale digits buffer)) × (r .1 ≡ writeTextAfter (tableFrom table) instant picture scale digits buffer))
-  pub write-julian : (table : List ℕ) (instant : ℤ) (scale : ℕ) → AtMostOne (λ (r : ℕ × Float × Float). r ≡ pairNumbers (writeJulian (tableFrom table) instant scale))
-  pub read-julian : (table : List ℕ) (scale : ℕ) (midnight fraction : Float) → AtMostOne (λ (r : ℕ × ℤ). r ≡ instantResults (readJulian (tableFrom table) scale (pair midnight fraction)))
-  pub start : (table : List ℕ) → AtMostOne (λ (r : ℕ × List ℕ). r ≡ labelNumbers (start (tableFrom table)))
-  pub tick-in-place : (table label : List ℕ) → AtMostOne (λ (r : ℕ × List ℕ). r ≡ labelNumbers (tick (tableFrom table) (labelFrom 0 label)))
+  pub bulletin-c : Gives leap-bulletin-c.Pre leap-bulletin-c.Post tt bulletinC
+  pub read-block : (s : Lent (List ℕ)) → Gives block-read-block.Pre block-read-block.Post (s & tt) (readBlock (now s))
+  pub write-block : (t : Table) (out : Lent (List ℕ)) →
+      Leaves block-write-block.Pre block-write-block.Post (t & out & tt) (λ bytes. t & out becomes bytes & tt)
+      (writeBlock t (now out), writeBlockAfter t (now out))
+  pub instant-of : (t : Table) (scale : ℕ) (r : Reading) → Gives stamp-instant-of.Pre stamp-instant-of.Post (t & scale & r & tt) (instantOf t scale r)
+  pub stamp-of : (t : Table) (instant : ℤ) (scale : ℕ) → Gives stamp-stamp-of.Pre stamp-stamp-of.Post (t & instant & scale & tt) (stampOf t instant scale)
+  pub read-text : (t : Table) (scale : ℕ) (text : Lent (List ℕ)) → Gives text-read-text.Pre text-read-text.Post (t & scale & text & tt) (readText t scale (now text))
+  pub write-text : (t : Table) (instant : ℤ) (picture scale digits : ℕ) (out : Lent (List ℕ)) →
+      Leaves text-write-text.Pre text-write-text.Post (t & instant & picture & scale & digits & out & tt) (λ bytes. t & instant & picture & scale & digits & out becomes bytes & tt)
+      (writeText t instant picture scale digits (now out), writeTextAfter t instant picture scale digits (now out))
+  pub write-julian : (t : Table) (instant : ℤ) (scale : ℕ) → Gives julian-write-julian.Pre julian-write-julian.Post (t & instant & scale & tt) (writeJulian t instant scale)
+  pub read-julian : (t : Table) (scale : ℕ) (date : JulianDate) → Gives julian-read-julian.Pre julian-read-julian.Post (t & scale & date & tt) (readJulian t scale date)
+  pub clock-starts : (t : Table) → Gives clock-start.Pre clock-start.Post (t & tt) (start t)
+  pub clock-ticks : (t : Table) (l : Label) → Gives clock-tick.Pre clock-tick.Post (t & l & tt) (tick t l)
+  pub list : (input out : Lent (List ℕ)) →
+      Leaves listing-list.Pre listing-list.Post (input & out & tt) (λ bytes. input & out becomes bytes & tt)
+      (written [] (listed (now input)) (now out), bufferAfter [] (listed (now input)) (now out))

@@ -1,0 +1,146 @@
+-- Most contracts are equations. Some also say what follows from theirs: that a count stands within a buffer, that a digit is at most 16.
+-- Assumes nothing.
+use mathlib.Core.Path.{_≡_, refl, sym, ap, ap₂, subst}
+use mathlib.Core.Bool.{Bool, true, false, cond}
+use mathlib.Core.List.{List, [], _∷_}
+use Prim.Native.Nat.{ℕ, _+_, min, _≤_}
+use native.Mathlib.Omega.{arith}
+use borrow.Author.Tests.{leb-true, leb-false}
+use lib.Dec.{eqb, leb}
+use lib.IntN.{ℤ}
+use lib.ListN.{length, drop, length-drop}
+use lib.Seq.{length-take-le}
+use Rattle.laws.specs.Placed.{place}
+use Rattle.digits.specs.Bytes.{next, appended, Counts, Appended}
+use Rattle.digits.proofs.Bytes.{room-yes, room-no}
+use Rattle.lines.specs.Words.{before}
+use Rattle.lines.specs.Pairs.{nibble}
+use Rattle.fields.specs.declared.Cursor.{Cursor}
+use Rattle.fields.specs.declared.U32Field.{U32Field}
+use Rattle.fields.specs.declared.I32Field.{I32Field}
+use Rattle.mundreff.specs.Settles.{Lent, Settles}
+use Rattle.mundreff.proofs.Settled.{equal, each, following}
+use Rattle.promises.specs.SettledParts.{SettledParts, SettledTables, SettledBytes}
+
+pub settled-parts : SettledParts
+settled-parts =
+    record {
+      refusal-number = λ why k. equal;
+      write = λ bytes out k. each;
+      refused-at = λ why at k. equal;
+      days-before = λ m k. equal;
+      month-length = λ m k. equal;
+      month-of-day = λ day k. equal;
+      day-of-year = λ m day k. equal;
+      date-in-year = λ year day k. equal;
+      judge = λ most r k. equal;
+      in-last-minute = λ days l k. equal;
+      minute-length = λ days here after l k. equal;
+      label-of = λ p k. equal;
+      scale-numbered = λ n k. equal;
+      scale-number = λ s k. equal;
+    }
+
+pub settled-tables : (count : ℕ) (months : Lent (List ℕ)) (offsets : Lent (List ℤ)) → SettledTables count months offsets
+settled-tables count months offsets =
+    record {
+      tabled = λ k. equal;
+      found = λ k. equal;
+      is-accepted = λ k. equal;
+      offset-at = λ m k. equal;
+      near = λ m k. equal;
+      asked = λ scale k. equal;
+      instant-in = λ s r k. equal;
+      stamp-of = λ x scale k. equal;
+      shown-of = λ x scale k. equal;
+      instant-showing = λ s micro k. equal;
+    }
+
+-- ---- what follows
+
+-- a text appended: where the next goes stands within the buffer
+appends-so : (l : List ℕ) (i : ℕ) (v : List ℕ) → Appended l i v (next l i v) (appended l i v)
+unfolding next appended
+appends-so l i v = go (leb (i + length v) (length l)) refl
+  where
+    go : (t : Bool) → leb (i + length v) (length l) ≡ t → Appended l i v (cond t (i + length v) (min i (length l))) (cond t (place l i v) l)
+    go true e = room-yes l i v (leb-true (i + length v) (length l) e) refl
+    go false e = room-no l i v (leb-false (i + length v) (length l) e) refl
+
+appends : {l : List ℕ} {i : ℕ} {v : List ℕ} → Settles Unit (λ (a : ℕ × List ℕ). Appended l i v (a .0) (a .1)) (next l i v, appended l i v)
+appends {l} {i} {v} =
+    record {
+      asks-nothing = tt;
+      allows-it-alone = λ a. (λ p. ap₂ (λ x y. (x, y)) (p .end) (p .text), λ p. subst (λ (b : ℕ × List ℕ). Appended l i v (b .0) (b .1)) (sym p) (appends-so l i v));
+    }
+
+-- the bytes before the first b are no more than all
+few-before : (b : ℕ) (s : List ℕ) → length (before b s) ≤ length s
+unfolding before
+few-before b [] = omega arith
+few-before b (x ∷ s) = go (eqb x b) (few-before b s)
+  where
+    go : (t : Bool) → length (before b s) ≤ length s → length (cond t [] (x ∷ before b s)) ≤ length (x ∷ s)
+    go true h = omega arith
+    go false h = omega arith
+
+-- the front of a list ends within it
+front-counts : (n : ℕ) (s : List ℕ) → Counts (min n (length s)) s
+front-counts n s = (omega arith, sym (length-take-le (min n (length s)) s (omega arith)))
+
+low : {x y : ℕ} (t : Bool) → (t ≡ true → x ≤ 16) → y ≤ 16 → cond t x y ≤ 16
+low true h k = h refl
+low false h k = k
+
+nibble-low : (b : ℕ) → nibble b ≤ 16
+unfolding nibble
+nibble-low b =
+    low (leb 48 b)
+    (λ _. low (leb b 57)
+    (λ e. omega (arith, leb-true b 57 e))
+    (low (leb 65 b)
+    (λ _. low (leb b 70)
+    (λ e. omega (arith, leb-true b 70 e))
+    (low (leb 97 b) (λ _. low (leb b 102) (λ e. omega (arith, leb-true b 102 e)) (omega arith)) (omega arith)))
+    (omega arith)))
+    (omega arith)
+
+abbrev u32Field : ℕ → Cursor → U32Field
+u32Field v n = record { value = v; next = n }
+
+abbrev i32Field : ℤ → Cursor → I32Field
+i32Field v n = record { value = v; next = n }
+
+pub settled-bytes : SettledBytes
+settled-bytes =
+    record {
+      byte-at = λ s i k. equal;
+      append = λ out at text k. appends;
+      append-unsigned = λ out at n k. appends;
+      append-signed = λ out at z k. appends;
+      append-hex = λ out at bytes k. appends;
+      decimal = λ word most k. equal;
+      digits = λ n k. equal;
+      month-name = λ m k. equal;
+      month-named = λ a b c k. equal;
+      write-fields = λ f out k. each;
+      read-fields = λ text k. equal;
+      until = λ s from b k.
+          let few : length (before b (drop from (s .now))) ≤ length (drop from (s .now)) = few-before b (drop from (s .now)) in
+          following (λ r. (from ≤ length (s .now) → r ≤ length (s .now)) × (from ≤ r)) ((λ h. omega (arith, few, length-drop from (s .now)), omega arith));
+      front = λ s n k.
+          record { asks-nothing = tt; allows-it-alone = λ r. (λ p. p .1, λ p. (subst (λ (x : ℕ). Counts x (s .now)) (sym p) (front-counts n (s .now)), p)) };
+      hex-digit = λ b k. following (λ r. r ≤ 16) (nibble-low b);
+      hex = λ word out k. each;
+      ended = λ line c k. equal;
+      number-field = λ line c most k. equal;
+      u32-field = λ line c k.
+          record { asks-nothing = tt; allows-it-alone = λ r. (λ p. ap₂ u32Field (p .0) (p .1), λ p. (ap (λ (r : U32Field). r .value) p, ap (λ (r : U32Field). r .next) p)) };
+      i64-field = λ line c k. equal;
+      i32-field = λ line c k.
+          record { asks-nothing = tt; allows-it-alone = λ r. (λ p. ap₂ i32Field (p .0) (p .1), λ p. (ap (λ (r : I32Field). r .value) p, ap (λ (r : I32Field). r .next) p)) };
+      hex-field = λ line c out k. each;
+      pattern-field = λ line c k. equal;
+      double = λ bits k. equal;
+      pattern = λ x k. equal;
+    }

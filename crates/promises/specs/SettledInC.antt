@@ -1,0 +1,64 @@
+-- Each call of the C interface is settled by its own contract, over what is handed over as words: the number that it returns, and everything that it writes.
+-- Assumes nothing.
+use mathlib.Core.List.{List}
+use Prim.Native.Nat.{ℕ}
+use lib.IntN.{ℤ}
+use lib.Ieee.{Float}
+use denote.Ref.{now}
+use Rattle.answer.specs.Buffers.{writtenResults}
+use Rattle.leap.specs.Leap.{bulletinC}
+use Rattle.stamp.specs.Stamps.{instantOf, instantResults, stampOf}
+use Rattle.clock.specs.Clock.{start, tick}
+use Rattle.block.specs.Blocks.{writeBlock, writeBlockAfter}
+use Rattle.block.specs.Reading.{readBlock}
+use Rattle.text.specs.Text.{readText, writeText, writeTextAfter}
+use Rattle.julian.specs.Dates.{writeJulian, readJulian}
+use Rattle.mundreff.specs.Words.{tableFrom, tableWords}
+use Rattle.mundreff.specs.Answers.{tableNumbers, stampNumbers, textNumbers, labelNumbers, pairNumbers}
+use Rattle.mundreff.specs.Calls.{labelFrom, scaleFrom, readingFrom, pair}
+use Rattle.mundreff.specs.Settles.{_&_, Lent, _becomes_, Leaves, LeavesTwo, also}
+use Rattle.mundreff.proofs.mundreff_bulletin_c.Reads as c-bulletin-c
+use Rattle.mundreff.proofs.mundreff_read_block.Reads as c-read-block
+use Rattle.mundreff.proofs.mundreff_write_block.Reads as c-write-block
+use Rattle.mundreff.proofs.mundreff_instant_of.Reads as c-instant-of
+use Rattle.mundreff.proofs.mundreff_stamp_of.Reads as c-stamp-of
+use Rattle.mundreff.proofs.mundreff_read_text.Reads as c-read-text
+use Rattle.mundreff.proofs.mundreff_write_text.Reads as c-write-text
+use Rattle.mundreff.proofs.mundreff_write_julian.Reads as c-write-julian
+use Rattle.mundreff.proofs.mundreff_read_julian.Reads as c-read-julian
+use Rattle.mundreff.proofs.mundreff_start.Reads as c-start
+use Rattle.mundreff.proofs.mundreff_tick_in_place.Reads as c-tick-in-place
+
+pub record SettledInC : Type 0 where
+  pub bulletin-c : (table : Lent (List ℕ)) → Leaves c-bulletin-c.Pre c-bulletin-c.Post (table & tt) (λ words. table becomes words & tt) (0, tableWords bulletinC)
+  pub read-block : (block : Lent (List ℕ)) (place : Lent ℕ) (table : Lent (List ℕ)) →
+      LeavesTwo c-read-block.Pre c-read-block.Post (block & place & table & tt) (λ at words. block & place becomes at & table becomes words & tt)
+      (tableNumbers (readBlock (now block)))
+  pub write-block : (table out : Lent (List ℕ)) (length : Lent ℕ) →
+      LeavesTwo c-write-block.Pre c-write-block.Post (table & out & length & tt) (λ n bytes. table & out becomes bytes & length becomes n & tt)
+      (also (writtenResults (writeBlock (tableFrom (now table)) (now out))) (writeBlockAfter (tableFrom (now table)) (now out)))
+  pub instant-of : (table stamp : Lent (List ℕ)) (instant : Lent ℤ) →
+      Leaves c-instant-of.Pre c-instant-of.Post (table & stamp & instant & tt) (λ x. table & stamp & instant becomes x & tt)
+      (instantResults (instantOf (tableFrom (now table)) (scaleFrom (now stamp)) (readingFrom (now stamp))))
+  pub stamp-of : (table : Lent (List ℕ)) (instant : ℤ) (scale : ℕ) (stamp : Lent (List ℕ)) →
+      Leaves c-stamp-of.Pre c-stamp-of.Post (table & instant & scale & stamp & tt) (λ words. table & instant & scale & stamp becomes words & tt)
+      (stampNumbers (stampOf (tableFrom (now table)) instant scale))
+  pub read-text : (table : Lent (List ℕ)) (scale : ℕ) (text : Lent (List ℕ)) (instant : Lent ℤ) (stamp : Lent (List ℕ)) →
+      LeavesTwo c-read-text.Pre c-read-text.Post (table & scale & text & instant & stamp & tt) (λ x words. table & scale & text & instant becomes x & stamp becomes words & tt)
+      (textNumbers (readText (tableFrom (now table)) scale (now text)))
+  pub write-text : (table : Lent (List ℕ)) (instant : ℤ) (picture scale digits : ℕ) (out : Lent (List ℕ)) (length : Lent ℕ) →
+      LeavesTwo c-write-text.Pre c-write-text.Post (table & instant & picture & scale & digits & out & length & tt)
+      (λ n bytes. table & instant & picture & scale & digits & out becomes bytes & length becomes n & tt)
+      (also (writtenResults (writeText (tableFrom (now table)) instant picture scale digits (now out))) (writeTextAfter (tableFrom (now table)) instant picture scale digits (now out)))
+  pub write-julian : (table : Lent (List ℕ)) (instant : ℤ) (scale : ℕ) (midnight fraction : Lent Float) →
+      LeavesTwo c-write-julian.Pre c-write-julian.Post (table & instant & scale & midnight & fraction & tt) (λ m f. table & instant & scale & midnight becomes m & fraction becomes f & tt)
+      (pairNumbers (writeJulian (tableFrom (now table)) instant scale))
+  pub read-julian : (table : Lent (List ℕ)) (scale : ℕ) (midnight fraction : Float) (instant : Lent ℤ) →
+      Leaves c-read-julian.Pre c-read-julian.Post (table & scale & midnight & fraction & instant & tt) (λ x. table & scale & midnight & fraction & instant becomes x & tt)
+      (instantResults (readJulian (tableFrom (now table)) scale (pair midnight fraction)))
+  pub clock-starts : (table label : Lent (List ℕ)) →
+      Leaves c-start.Pre c-start.Post (table & label & tt) (λ words. table & label becomes words & tt)
+      (labelNumbers (start (tableFrom (now table))))
+  pub clock-ticks-in-place : (table label : Lent (List ℕ)) →
+      Leaves c-tick-in-place.Pre c-tick-in-place.Post (table & label & tt) (λ words. table & label becomes words & tt)
+      (labelNumbers (tick (tableFrom (now table)) (labelFrom 0 (now label))))

@@ -1,0 +1,171 @@
+-- What the crates ask of each other is settled too: every other public function, by its own contract.
+-- Assumes nothing.
+use mathlib.Core.List.{List, [], _∷_}
+use mathlib.Core.Bool.{_&&_}
+use Prim.Native.Nat.{ℕ, _+_, _-_, _^_, min}
+use lib.IntN.{ℤ}
+use lib.Dec.{eqb}
+use lib.Ieee.{Float, binary64, ofBits, toBits}
+use lib.ListN.{length, drop, getD}
+use denote.Ref.{now}
+use Rattle.answer.specs.declared.Refusal.{Refusal}
+use Rattle.answer.specs.Refusals.{number}
+use Rattle.answer.specs.Buffers.{written, bufferAfter}
+use Rattle.digits.specs.Bytes.{next, appended}
+use Rattle.digits.specs.Decimals.{digitsOf, decimalOf, decimalText, signedText}
+use Rattle.digits.specs.Months.{monthName, monthNamed}
+use Rattle.months.specs.Months.{daysBefore, monthLength}
+use Rattle.calendar.specs.Days.{dayOfYear}
+use Rattle.calendar.specs.Dates.{spanOfDay, dateInYear}
+use Rattle.leap.specs.declared.Table.{Table}
+use Rattle.leap.specs.Leap.{tabled, accepted, offsetAt, nearAt}
+use Rattle.leap.specs.Readers.{found, refusedAt}
+use Rattle.labels.specs.declared.Label.{Label}
+use Rattle.labels.specs.declared.Reading.{Reading}
+use Rattle.labels.specs.declared.Place.{Place}
+use Rattle.labels.specs.Labels.{judged, inLastMinute, minuteIn}
+use Rattle.labels.specs.Seconds.{labelOf}
+use Rattle.stamp.specs.declared.Scale.{Scale}
+use Rattle.stamp.specs.Scales.{scaleOf, scaleNumber, asked}
+use Rattle.stamp.specs.Stamps.{instantIn, stampOf}
+use Rattle.stamp.specs.Back.{shownOf, instantShowing}
+use Rattle.pictures.specs.declared.Fields.{Fields}
+use Rattle.pictures.specs.Pictures.{pictureText}
+use Rattle.pictures.specs.Reading.{readFields}
+use Rattle.lines.specs.Words.{before}
+use Rattle.lines.specs.Pairs.{nibble, hexOf, hexInto, hexShown}
+use Rattle.fields.specs.declared.Cursor.{Cursor}
+use Rattle.fields.specs.declared.U32Field.{U32Field}
+use Rattle.fields.specs.declared.I32Field.{I32Field}
+use Rattle.fields.specs.Words.{wordAt}
+use Rattle.fields.specs.Fields.{naturalAt, integerAt, hexAt, patternAt}
+use Rattle.mundreff.specs.Settles.{_&_, Lent, _becomes_, Gives, Leaves}
+use Rattle.answer.proofs.number_of.Reads as answer-number-of
+use Rattle.answer.proofs.write.Reads as answer-write
+use Rattle.digits.proofs.byte_at.Reads as digits-byte-at
+use Rattle.digits.proofs.append.Reads as digits-append
+use Rattle.digits.proofs.decimal.Reads as digits-decimal
+use Rattle.digits.proofs.digits.Reads as digits-digits
+use Rattle.digits.proofs.append_unsigned.Reads as digits-append-unsigned
+use Rattle.digits.proofs.append_signed.Reads as digits-append-signed
+use Rattle.digits.proofs.month_name.Reads as digits-month-name
+use Rattle.digits.proofs.month_named.Reads as digits-month-named
+use Rattle.months.proofs.days_before.Reads as months-days-before
+use Rattle.calendar.proofs.month_length.Reads as calendar-month-length
+use Rattle.calendar.proofs.month_of_day.Reads as calendar-month-of-day
+use Rattle.calendar.proofs.day_of_year.Reads as calendar-day-of-year
+use Rattle.calendar.proofs.date_in_year.Reads as calendar-date-in-year
+use Rattle.leap.proofs.tabled.Reads as leap-tabled
+use Rattle.leap.proofs.found.Reads as leap-found
+use Rattle.leap.proofs.refused_at.Reads as leap-refused-at
+use Rattle.leap.proofs.is_accepted_in.Reads as leap-is-accepted-in
+use Rattle.leap.proofs.offset_at.Reads as leap-offset-at
+use Rattle.leap.proofs.near.Reads as leap-near
+use Rattle.labels.proofs.judge.Reads as labels-judge
+use Rattle.labels.proofs.in_last_minute.Reads as labels-in-last-minute
+use Rattle.labels.proofs.minute_length.Reads as labels-minute-length
+use Rattle.labels.proofs.label_of.Reads as labels-label-of
+use Rattle.stamp.proofs.Scale.numbered.Reads as stamp-scale-numbered
+use Rattle.stamp.proofs.Scale.number.Reads as stamp-scale-number
+use Rattle.stamp.proofs.asked.Reads as stamp-asked
+use Rattle.stamp.proofs.instant_in.Reads as stamp-instant-in
+use Rattle.stamp.proofs.stamp_of_in.Reads as stamp-stamp-of-in
+use Rattle.stamp.proofs.shown_of.Reads as stamp-shown-of
+use Rattle.stamp.proofs.instant_showing.Reads as stamp-instant-showing
+use Rattle.pictures.proofs.write_fields.Reads as pictures-write-fields
+use Rattle.pictures.proofs.read_fields.Reads as pictures-read-fields
+use Rattle.lines.proofs.until.Reads as lines-until
+use Rattle.lines.proofs.front.Reads as lines-front
+use Rattle.lines.proofs.hex_digit.Reads as lines-hex-digit
+use Rattle.lines.proofs.hex.Reads as lines-hex
+use Rattle.lines.proofs.append_hex.Reads as lines-append-hex
+use Rattle.fields.proofs.ended.Reads as fields-ended
+use Rattle.fields.proofs.number_field.Reads as fields-number-field
+use Rattle.fields.proofs.u32_field.Reads as fields-u32-field
+use Rattle.fields.proofs.i64_field.Reads as fields-i64-field
+use Rattle.fields.proofs.i32_field.Reads as fields-i32-field
+use Rattle.fields.proofs.hex_field.Reads as fields-hex-field
+use Rattle.fields.proofs.pattern_field.Reads as fields-pattern-field
+use Rattle.fields.proofs.double.Reads as fields-double
+use Rattle.fields.proofs.pattern.Reads as fields-pattern
+
+-- refusals and buffers; months, dates, labels and scales
+pub record SettledParts : Type 0 where
+  pub refusal-number : (why : Refusal) → Gives answer-number-of.Pre answer-number-of.Post (why & tt) (number why)
+  pub write : (bytes out : Lent (List ℕ)) →
+      Leaves answer-write.Pre answer-write.Post (bytes & out & tt) (λ after. bytes & out becomes after & tt)
+      (written [] (now bytes) (now out), bufferAfter [] (now bytes) (now out))
+  pub refused-at : (why : Refusal) (at : ℕ) → Gives leap-refused-at.Pre leap-refused-at.Post (why & at & tt) (refusedAt why at)
+  pub days-before : (m : ℕ) → Gives months-days-before.Pre months-days-before.Post (m & tt) (daysBefore m)
+  pub month-length : (m : ℕ) → Gives calendar-month-length.Pre calendar-month-length.Post (m & tt) (monthLength m)
+  pub month-of-day : (day : ℕ) → Gives calendar-month-of-day.Pre calendar-month-of-day.Post (day & tt) (spanOfDay day)
+  pub day-of-year : (m day : ℕ) → Gives calendar-day-of-year.Pre calendar-day-of-year.Post (m & day & tt) (dayOfYear m day)
+  pub date-in-year : (year day : ℕ) → Gives calendar-date-in-year.Pre calendar-date-in-year.Post (year & day & tt) (dateInYear year day)
+  pub judge : (most : ℕ) (r : Reading) → Gives labels-judge.Pre labels-judge.Post (most & r & tt) (judged most r)
+  pub in-last-minute : (days : ℕ) (l : Label) → Gives labels-in-last-minute.Pre labels-in-last-minute.Post (days & l & tt) (inLastMinute days l)
+  pub minute-length : (days : ℕ) (here after : ℤ) (l : Label) → Gives labels-minute-length.Pre labels-minute-length.Post (days & here & after & l & tt) (minuteIn days here after l)
+  pub label-of : (p : Place) → Gives labels-label-of.Pre labels-label-of.Post (p & tt) (labelOf p)
+  pub scale-numbered : (k : ℕ) → Gives stamp-scale-numbered.Pre stamp-scale-numbered.Post (k & tt) (scaleOf k)
+  pub scale-number : (s : Scale) → Gives stamp-scale-number.Pre stamp-scale-number.Post (s & tt) (scaleNumber s)
+
+-- what is asked of a table whose two arrays are lent
+module _ (count : ℕ) (months : Lent (List ℕ)) (offsets : Lent (List ℤ)) where
+  abbrev table : Table
+  table = tabled count (now months) (now offsets)
+
+  pub record SettledTables : Type 0 where
+    pub tabled : Gives leap-tabled.Pre leap-tabled.Post (count & months & offsets & tt) table
+    pub found : Gives leap-found.Pre leap-found.Post (count & months & offsets & tt) (found table)
+    pub is-accepted : Gives leap-is-accepted-in.Pre leap-is-accepted-in.Post (count & months & offsets & tt) (accepted table)
+    pub offset-at : (m : ℕ) → Gives leap-offset-at.Pre leap-offset-at.Post (count & months & offsets & m & tt) (offsetAt table m)
+    pub near : (m : ℕ) → Gives leap-near.Pre leap-near.Post (count & months & offsets & m & tt) (nearAt table m)
+    pub asked : (scale : ℕ) → Gives stamp-asked.Pre stamp-asked.Post (count & months & offsets & scale & tt) (asked table scale)
+    pub instant-in : (s : Scale) (r : Reading) → Gives stamp-instant-in.Pre stamp-instant-in.Post (s & count & months & offsets & r & tt) (instantIn table s r)
+    pub stamp-of : (instant : ℤ) (scale : ℕ) → Gives stamp-stamp-of-in.Pre stamp-stamp-of-in.Post (count & months & offsets & instant & scale & tt) (stampOf table instant scale)
+    pub shown-of : (instant : ℤ) (scale : ℕ) → Gives stamp-shown-of.Pre stamp-shown-of.Post (count & months & offsets & instant & scale & tt) (shownOf table instant scale)
+    pub instant-showing : (s : Scale) (micro : ℕ) → Gives stamp-instant-showing.Pre stamp-instant-showing.Post (s & count & months & offsets & micro & tt) (instantShowing table s micro)
+
+-- bytes: digits, pictures, lines and their fields
+pub record SettledBytes : Type 0 where
+  pub byte-at : (s : Lent (List ℕ)) (i : ℕ) → Gives digits-byte-at.Pre digits-byte-at.Post (s & i & tt) (getD (now s) i 0)
+  pub append : (out : Lent (List ℕ)) (at : ℕ) (text : Lent (List ℕ)) →
+      Leaves digits-append.Pre digits-append.Post (out & at & text & tt) (λ after. out becomes after & at & text & tt)
+      (next (now out) at (now text), appended (now out) at (now text))
+  pub append-unsigned : (out : Lent (List ℕ)) (at n : ℕ) →
+      Leaves digits-append-unsigned.Pre digits-append-unsigned.Post (out & at & n & tt) (λ after. out becomes after & at & n & tt)
+      (next (now out) at (decimalText n), appended (now out) at (decimalText n))
+  pub append-signed : (out : Lent (List ℕ)) (at : ℕ) (z : ℤ) →
+      Leaves digits-append-signed.Pre digits-append-signed.Post (out & at & z & tt) (λ after. out becomes after & at & z & tt)
+      (next (now out) at (signedText z), appended (now out) at (signedText z))
+  pub append-hex : (out : Lent (List ℕ)) (at : ℕ) (bytes : Lent (List ℕ)) →
+      Leaves lines-append-hex.Pre lines-append-hex.Post (out & at & bytes & tt) (λ after. out becomes after & at & bytes & tt)
+      (next (now out) at (hexShown (now bytes)), appended (now out) at (hexShown (now bytes)))
+  pub decimal : (word : Lent (List ℕ)) (most : ℕ) → Gives digits-decimal.Pre digits-decimal.Post (word & most & tt) (decimalOf most (now word))
+  pub digits : (n : ℕ) → Gives digits-digits.Pre digits-digits.Post (n & tt) (digitsOf 6 n)
+  pub month-name : (month : ℕ) → Gives digits-month-name.Pre digits-month-name.Post (month & tt) (monthName month)
+  pub month-named : (a b c : ℕ) → Gives digits-month-named.Pre digits-month-named.Post (a & b & c & tt) (monthNamed (a ∷ b ∷ c ∷ []))
+  pub write-fields : (f : Fields) (out : Lent (List ℕ)) →
+      Leaves pictures-write-fields.Pre pictures-write-fields.Post (f & out & tt) (λ after. f & out becomes after & tt)
+      (written [] (pictureText f) (now out), bufferAfter [] (pictureText f) (now out))
+  pub read-fields : (text : Lent (List ℕ)) → Gives pictures-read-fields.Pre pictures-read-fields.Post (text & tt) (readFields (now text))
+  pub until : (s : Lent (List ℕ)) (from b : ℕ) → Gives lines-until.Pre lines-until.Post (s & from & b & tt) (from + length (before b (drop from (now s))))
+  pub front : (s : Lent (List ℕ)) (n : ℕ) → Gives lines-front.Pre lines-front.Post (s & n & tt) (min n (length (now s)))
+  pub hex-digit : (b : ℕ) → Gives lines-hex-digit.Pre lines-hex-digit.Post (b & tt) (nibble b)
+  pub hex : (word out : Lent (List ℕ)) →
+      Leaves lines-hex.Pre lines-hex.Post (word & out & tt) (λ after. word & out becomes after & tt)
+      (hexOf (length (now out)) (now word), hexInto (now out) (now word))
+  pub ended : (line : Lent (List ℕ)) (c : Cursor) → Gives fields-ended.Pre fields-ended.Post (line & c & tt) (c .fine && eqb (c .at) (length (now line)))
+  pub number-field : (line : Lent (List ℕ)) (c : Cursor) (most : ℕ) → Gives fields-number-field.Pre fields-number-field.Post (line & c & most & tt) (naturalAt most (now line) c)
+  pub u32-field : (line : Lent (List ℕ)) (c : Cursor) →
+      Gives {R = U32Field} fields-u32-field.Pre fields-u32-field.Post (line & c & tt)
+      (record { value = naturalAt (2 ^ 32 - 1) (now line) c .value; next = naturalAt (2 ^ 32 - 1) (now line) c .next })
+  pub i64-field : (line : Lent (List ℕ)) (c : Cursor) → Gives fields-i64-field.Pre fields-i64-field.Post (line & c & tt) (integerAt (2 ^ 63 - 1) (now line) c)
+  pub i32-field : (line : Lent (List ℕ)) (c : Cursor) →
+      Gives {R = I32Field} fields-i32-field.Pre fields-i32-field.Post (line & c & tt)
+      (record { value = integerAt (2 ^ 31 - 1) (now line) c .value; next = integerAt (2 ^ 31 - 1) (now line) c .next })
+  pub hex-field : (line : Lent (List ℕ)) (c : Cursor) (out : Lent (List ℕ)) →
+      Leaves fields-hex-field.Pre fields-hex-field.Post (line & c & out & tt) (λ after. line & c & out becomes after & tt)
+      (hexAt (length (now out)) (now line) c, hexInto (now out) (wordAt (now line) (c .at)))
+  pub pattern-field : (line : Lent (List ℕ)) (c : Cursor) → Gives fields-pattern-field.Pre fields-pattern-field.Post (line & c & tt) (patternAt (now line) c)
+  pub double : (bits : ℕ) → Gives fields-double.Pre fields-double.Post (bits & tt) (ofBits binary64 bits)
+  pub pattern : (x : Float) → Gives fields-pattern.Pre fields-pattern.Post (x & tt) (toBits binary64 x)
