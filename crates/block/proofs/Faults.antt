@@ -1,15 +1,14 @@
 -- The first fault that the reader meets is that of `firstFault`.
 -- Assumes nothing.
 use Prim.Native.Nat.{ℕ, zero, suc, _+_, _-_, _*_, _%_, _<_, _≤_}
-use mathlib.Core.Path.{_≡_, refl, sym, ap, _∙_}
+use mathlib.Core.Path.{_≡_, refl, ap, _∙_}
 use mathlib.Core.List.{List, [], _∷_}
-use mathlib.Core.Bool.{Bool, true, false, cond}
+use mathlib.Core.Bool.{Bool, true, false, cond, _||_}
 use native.Mathlib.Omega.{arith}
 use lib.ListN.{length, drop, getD}
 use lib.Dec.{ltb, eqb}
-use borrow.Author.Tests.{lt-ltb, le-ltb, eq-eqb, ne-eqb}
-use Rattle.laws.proofs.Branches.{cond-yes, cond-rest}
-use Rattle.laws.proofs.Cases.{by-order, or-l, or-r}
+use borrow.Author.Tests.{lt-ltb, le-ltb, ltb-true, ltb-false, eqb-true, ne-eqb}
+use Rattle.laws.proofs.Cases.{by-order}
 use Rattle.answer.specs.declared.Refusal.the-variants.{Cut as CUT, Groups as GROUPS, Table as TABLE}
 use Rattle.answer.specs.Refusals.{refusing}
 use Rattle.answer.proofs.Orders.{refusing-map}
@@ -17,7 +16,7 @@ use Rattle.leap.specs.Entries.{Entry, firstEntry}
 use Rattle.leap.specs.Readers.{Outcome, entered, fault, after}
 use Rattle.block.specs.declared.NumberAnswer.{NumberAnswer}
 use Rattle.block.specs.declared.NumberAnswer.the-variants.{Number, Cut, Groups}
-use Rattle.block.specs.Faults.{marks, numberSize, numberValue, shortest, numberTests, countFine, gapFine, Fault, noFault, faultAt, faultFrom, firstFault}
+use Rattle.block.specs.Faults.{marks, numberSize, numberValue, someLast, shortest, numberTests, countFine, gapFine, Fault, noFault, faultAt, faultFrom, firstFault}
 use Rattle.block.specs.Reading.{above, readGroups, readNumber, nextEntry, onNumber, readEntries, inBlock}
 use Rattle.block.proofs.Numbers.{read-more, above-zero, above-number}
 
@@ -41,11 +40,12 @@ module _ (b : ℕ) (s : List ℕ) where
   unfolding numberValue
   value-more l = rw (le-ltb b 128 l)
 
--- by its last group: a number of one group is that, and one with a last group that is not 0 is not 0
-only-group : (s : List ℕ) → marks s ≡ 0 → numberValue s ≡ getD s 0 0
+-- by its last group: a number of one group that is 0 is 0, and one with a last group that is not 0 is not 0
+only-group : (s : List ℕ) → marks s ≡ 0 → getD s (marks s) 0 ≤ 0 → numberValue s ≡ 0
 unfolding numberValue
-only-group [] e = refl
-only-group (b ∷ s) e = by-order b 128 (λ l. value-one b s l) (λ l. absurd (omega (arith, marks-more b s l)))
+only-group [] e h = refl
+only-group (b ∷ s) e h =
+    by-order b 128 (λ l. omega (arith, value-one b s l, rw (marks-one b s l) at h)) (λ l. absurd (omega (arith, marks-more b s l)))
 
 last-group : (s : List ℕ) → 0 < getD s (marks s) 0 → 0 < numberValue s
 last-group [] h = absurd (omega arith)
@@ -54,20 +54,22 @@ last-group (b ∷ s) h =
     (λ l. rw (value-one b s l) (rw (marks-one b s l) at h))
     (λ l. omega (arith, value-more b s l, last-group s (rw (marks-more b s l) at h)))
 
--- a group below the number with which s begins, where that ends and has few enough groups
-above-number-of : (low : ℕ) (s : List ℕ) → above low (cond (shortest s) (Number (numberValue s) (numberSize s)) Groups) ≡ cond (ltb 0 (getD s (marks s) 0)) (Number (numberValue s * 128 + low) (suc (marks s) + 1)) Groups
+-- a group below a number n of one group or of more, whose last group is 0 or not
+above-cases : (low n bytes : ℕ) (one some : Bool) → (some ≡ true → n ≡ 0 → ⊥) → (some ≡ false → one ≡ true → n ≡ 0) → above low (cond (one || some) (Number n bytes) Groups) ≡ cond some (Number (n * 128 + low) (bytes + 1)) Groups
+above-cases low n bytes true true f g = above-number low n bytes (f refl)
+above-cases low n bytes false true f g = above-number low n bytes (f refl)
+above-cases low n bytes true false f g = above-zero low n bytes (g refl refl)
+above-cases low n bytes false false f g = refl
+
+above-number-of : (low : ℕ) (s : List ℕ) → above low (cond (shortest s) (Number (numberValue s) (numberSize s)) Groups) ≡ cond (someLast s) (Number (numberValue s * 128 + low) (suc (marks s) + 1)) Groups
 above-number-of low s =
-    by-order 0 (getD s (marks s) 0)
-    (λ l. cond-yes Groups (lt-ltb 0 _ l) (shorter (or-r (eqb (marks s) 0) (lt-ltb 0 _ l)) ∙ above-number low (numberValue s) (numberSize s) (omega (arith, last-group s l)) ∙ ap (Number (numberValue s * 128 + low)) (omega arith)))
-    (λ z.
-    let f : getD s (marks s) 0 ≡ 0 = omega arith in
-    cond-rest (Number (numberValue s * 128 + low) (suc (marks s) + 1)) (le-ltb 0 _ z)
-    (by-order 0 (marks s)
-    (λ l. rw (ne-eqb (marks s) 0 (omega arith), le-ltb 0 (getD s (marks s) 0) z))
-    (λ l. let e : marks s ≡ 0 = omega arith in shorter (or-l (ltb 0 (getD s (marks s) 0)) (eq-eqb (marks s) 0 e)) ∙ above-zero low (numberValue s) (numberSize s) (only-group s e ∙ ap (λ k. getD s k 0) (sym e) ∙ f))))
+    above-cases low (numberValue s) (numberSize s) (eqb (marks s) 0) (someLast s)
+    (λ e z. omega (arith, last-group s (ltb-true 0 _ e)))
+    (λ e z. only-group s (eqb-true (marks s) 0 z) (ltb-false 0 _ e))
+    ∙ ap (λ n. cond (someLast s) (Number (numberValue s * 128 + low) n) Groups) more
   where
-    shorter : {b : Bool} → shortest s ≡ b → above low (cond (shortest s) (Number (numberValue s) (numberSize s)) Groups) ≡ above low (cond b (Number (numberValue s) (numberSize s)) Groups)
-    shorter e = ap (λ b. above low (cond b (Number (numberValue s) (numberSize s)) Groups)) e
+    more : numberSize s + 1 ≡ suc (marks s) + 1
+    more = omega arith
 
 -- one group more
 one-more : (low k m n : ℕ) (x y : NumberAnswer) → above low x ≡ y → above low (cond (ltb m k) (cond (ltb m n) x Cut) Groups) ≡ cond (ltb (suc m) (suc k)) (cond (ltb (suc m) (suc n)) y Cut) Groups

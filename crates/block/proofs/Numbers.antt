@@ -41,6 +41,9 @@ above-zero low high size h = rw h
 pub above-number : (low high size : ℕ) → (high ≡ 0 → ⊥) → above low (Number high size) ≡ Number (high * 128 + low) (size + 1)
 above-number low high size h = rw (ne-eqb high 0 h)
 
+some-group : (k n : ℕ) → 1 ≤ length (groupsOf (suc k) n)
+some-group k n = by-order n 128 (λ l. rw (one-group k n l) (omega arith)) (λ l. rw (more-groups k n l) (omega arith))
+
 -- ---- what is written is read back
 
 pub read-written : (k n : ℕ) (rest : List ℕ) → n < 128 ^ suc k → readGroups (suc k) (groupsOf (suc k) n ++ rest) ≡ Number n (length (groupsOf (suc k) n))
@@ -148,7 +151,7 @@ most zero n = omega arith
 most (suc k) n = by-order n 128 (λ l. rw (lt-ltb n 128 l) (omega arith)) (λ l. rw (le-ltb n 128 l) (omega (arith, most k (n / 128))))
 
 pub number-size : (n : ℕ) → (1 ≤ length (numberBytes n)) × (length (numberBytes n) ≤ 3)
-number-size n = by-order n 128 (λ l. rw (number-last n l) (omega arith, omega arith)) (λ l. rw (more-groups 2 n l) (omega arith, omega (arith, most 2 (n / 128))))
+number-size n = (some-group 2 n, most 3 n)
 
 -- ---- a number at a place of a list, as the code reads it
 

@@ -26,9 +26,13 @@ unfoldable pub numberValue : List ℕ → ℕ
 numberValue [] = 0
 numberValue (byte ∷ s) = cond (ltb byte 128) byte (numberValue s * 128 + byte % 128)
 
+-- its last group is not zero
+abbrev pub someLast : List ℕ → Bool
+someLast s = ltb 0 (getD s (marks s) 0)
+
 -- no last group of zero after another group
 abbrev pub shortest : List ℕ → Bool
-shortest s = eqb (marks s) 0 || ltb 0 (getD s (marks s) 0)
+shortest s = eqb (marks s) 0 || someLast s
 
 -- three bytes with the top bit set are GROUPS, also where the bytes end there; an end sooner is CUT; then the shortest form, then the number's own test
 abbrev pub numberTests : (ℕ → Bool) → List ℕ → List (Bool × Refusal)
