@@ -1,7 +1,7 @@
 -- Most contracts are equations. Some also say what follows from theirs: that a count stands within a buffer, that a digit is at most 16.
 -- Assumes nothing.
 use mathlib.Core.Path.{_≡_, refl, sym, ap, ap₂, subst}
-use mathlib.Core.Bool.{Bool, true, false, cond}
+use mathlib.Core.Bool.{Bool, true, false, cond, _&&_}
 use mathlib.Core.List.{List, [], _∷_}
 use Prim.Native.Nat.{ℕ, _+_, min, _≤_}
 use native.Mathlib.Omega.{arith}
@@ -10,6 +10,7 @@ use lib.Dec.{eqb, leb}
 use lib.IntN.{ℤ}
 use lib.ListN.{length, drop, length-drop}
 use lib.Seq.{length-take-le}
+use Rattle.laws.proofs.Cases.{and-r}
 use Rattle.laws.specs.Placed.{place}
 use Rattle.digits.specs.Bytes.{next, appended, Counts, Appended}
 use Rattle.digits.proofs.Bytes.{room-yes, room-no}
@@ -95,15 +96,9 @@ low false h k = k
 nibble-low : (b : ℕ) → nibble b ≤ 16
 unfolding nibble
 nibble-low b =
-    low (leb 48 b)
-    (λ _. low (leb b 57)
-    (λ e. omega (arith, leb-true b 57 e))
-    (low (leb 65 b)
-    (λ _. low (leb b 70)
-    (λ e. omega (arith, leb-true b 70 e))
-    (low (leb 97 b) (λ _. low (leb b 102) (λ e. omega (arith, leb-true b 102 e)) (omega arith)) (omega arith)))
-    (omega arith)))
-    (omega arith)
+    low (leb 48 b && leb b 57) (λ e. omega (arith, leb-true b 57 (and-r (leb 48 b) _ e)))
+    (low (leb 65 b && leb b 70) (λ e. omega (arith, leb-true b 70 (and-r (leb 65 b) _ e)))
+    (low (leb 97 b && leb b 102) (λ e. omega (arith, leb-true b 102 (and-r (leb 97 b) _ e))) (omega arith)))
 
 abbrev u32Field : ℕ → Cursor → U32Field
 u32Field v n = record { value = v; next = n }
