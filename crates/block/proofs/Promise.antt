@@ -1,6 +1,6 @@
 -- Accepted tables and their blocks match one to one: what is written is read back, and only what is written is read.
 -- Assumes nothing.
-use Prim.Native.Nat.{ℕ, zero, suc, _+_, _-_, _/_, _≤_, _<_}
+use Prim.Native.Nat.{ℕ, zero, suc, _+_, _-_, _/_, _<_}
 use mathlib.Core.Path.{_≡_, refl, sym, ap, ap₂, subst, _∙_}
 use mathlib.Core.List.{List, [], _∷_, _++_}
 use mathlib.Core.Bool.{Bool, true, false}
@@ -25,11 +25,11 @@ use Rattle.block.specs.declared.NumberAnswer.{NumberAnswer}
 use Rattle.block.specs.declared.NumberAnswer.the-variants.{Number, Cut, Groups}
 use Rattle.block.specs.Numbers.{numberBytes}
 use Rattle.block.specs.Blocks.{stepNumber, stepBytes, blockOf, writeBlock}
-use Rattle.block.specs.Faults.{countFine, gapFine, noFault, faultAt, firstFault}
+use Rattle.block.specs.Faults.{countFine, gapFine, noFault, faultAt}
 use Rattle.block.specs.Reading.{readNumber, nextEntry, onNumber, readEntries, inBlock, readBlock}
 use Rattle.block.specs.Promise.{Bytes, GivesTable, OneToOne, ReadsBlock, WritesBlock, Blocks}
 use Rattle.block.proofs.Numbers.{read-written, written-read, bytes-append, bytes-groups}
-use Rattle.block.proofs.Steps.{bit, bit-small, next-bit, next-back, next-apart}
+use Rattle.block.proofs.Steps.{bit-small, next-bit, next-back, next-apart}
 use Rattle.block.proofs.Reading.{count-fine, gap-fine}
 use Rattle.block.proofs.Blocks.{step-small}
 use Rattle.block.proofs.Faults.{faultOf, block-fault}
