@@ -134,7 +134,7 @@ fn all_right<'a>(count: usize, months: &'a [u32; 64], offsets: &'a [i32; 64]) ->
     ok
 }
 
-// For callers that lend the arrays: a table by value is copied.
+// The check. The arrays are lent: a table by value is copied.
 pub fn is_accepted_in<'a>(count: usize, months: &'a [u32; 64], offsets: &'a [i32; 64]) -> bool
     ensures { λ r. ⌜ r ≡ accepted (tabled count (now (months .entry)) (now (offsets .entry))) ⌝ }
 {
@@ -145,13 +145,6 @@ pub fn is_accepted_in<'a>(count: usize, months: &'a [u32; 64], offsets: &'a [i32
         return false;
     }
     all_right(count, months, offsets)
-}
-
-// The check by itself, for a table by value.
-pub fn is_accepted(t: Table) -> bool
-    ensures { λ r. ⌜ r ≡ accepted t ⌝ }
-{
-    is_accepted_in(t.count, &t.months, &t.offsets)
 }
 
 // ---- TAI-UTC

@@ -7,7 +7,7 @@ use Prim.Native.Nat.{ℕ, suc, _+_, _*_, _/_, _%_, _≤_, _<_}
 use native.Mathlib.Numerals.{add-one}
 use native.Mathlib.Omega.{arith}
 use borrow.Author.Tests.{lt-ltb, le-ltb, eq-eqb, ne-eqb, le-leb, lt-leb}
-use lib.Dec.{ltb, leb}
+use lib.Dec.{eqb, ltb, leb}
 use lib.ListN.{length, take, drop, getD, set, take-append-drop, length-drop, length-set}
 use lib.Seq.{drop-cons, drop-drop, take-at, take-suc, take-suc-set, drop-set-lt, length-take-le}
 use Rattle.laws.specs.Placed.{place}
@@ -92,18 +92,20 @@ module _ (out s : List ℕ) where
   unfolding hexOf hexInto
   no-room h = (rw (lt-leb (length s / 2) (length out) h), rw (lt-leb (length s / 2) (length out) h))
 
-  module _ (h : length s / 2 ≤ length out) {n : ℕ} {after : List ℕ} (p : n ≡ length (paired s)) (q : after ≡ place out 0 (paired s)) where
-    stored : after ≡ hexInto out s
-    unfolding hexInto
-    stored = rw (le-leb (length s / 2) (length out) h) q
+  module _ (h : length s / 2 ≤ length out) {n : ℕ} (p : n ≡ length (paired s)) where
+    pub not-pairs : (n * 2 ≡ length s → ⊥) → (Bad ≡ hexOf (length out) s) × (out ≡ hexInto out s)
+    unfolding hexOf hexInto allPairs
+    not-pairs e =
+        let r = le-leb (length s / 2) (length out) h in
+        let q = ne-eqb (n * 2) (length s) e in
+        (rw (r, ← p, q), rw (r, ← p, q))
 
-    pub not-pairs : (n * 2 ≡ length s → ⊥) → (Bad ≡ hexOf (length out) s) × (after ≡ hexInto out s)
-    unfolding hexOf allPairs
-    not-pairs e = (rw (le-leb (length s / 2) (length out) h, ← p, ne-eqb (n * 2) (length s) e), stored)
-
-    pub all-pairs : n * 2 ≡ length s → (Is n ≡ hexOf (length out) s) × (after ≡ hexInto out s)
-    unfolding hexOf allPairs
-    all-pairs e = (rw (le-leb (length s / 2) (length out) h, ← p, eq-eqb (n * 2) (length s) e), stored)
+    pub all-pairs : n * 2 ≡ length s → {m : ℕ} {after : List ℕ} → (m ≡ length (paired s)) × (after ≡ place out 0 (paired s)) → (Is m ≡ hexOf (length out) s) × (after ≡ hexInto out s)
+    unfolding hexOf hexInto allPairs
+    all-pairs e {m} {after} u =
+        let r = le-leb (length s / 2) (length out) h in
+        let q : eqb (length (paired s) * 2) (length s) ≡ true = eq-eqb (length (paired s) * 2) (length s) (ap (λ (k : ℕ). k * 2) (sym p) ∙ e) in
+        (rw (r, q) (ap Is (u .0)), rw (r, q) (u .1))
 
 pub paired-few : (s : List ℕ) → length (paired s) * 2 ≤ length s
 unfolding paired
@@ -119,11 +121,12 @@ paired-few (a ∷ b ∷ s) = go (ltb (nibble a) 16) (ltb (nibble b) 16) (paired-
 -- nothing is stored where there are no pairs
 pub into-none : (out s : List ℕ) → paired s ≡ [] → out ≡ hexInto out s
 unfolding hexInto
-into-none out s e = go (leb (length s / 2) (length out))
+into-none out s e = go (leb (length s / 2) (length out)) (allPairs s)
   where
-    go : (t : Bool) → out ≡ cond t (place out 0 (paired s)) out
-    go true = rw e (sym (place-none out 0))
-    go false = refl
+    go : (t u : Bool) → out ≡ cond t (cond u (place out 0 (paired s)) out) out
+    go true true = rw e (sym (place-none out 0))
+    go true false = refl
+    go false u = refl
 
 -- ---- a caller with room for every pair
 module _ (s : List ℕ) {room : ℕ} (h : length s / 2 ≤ room) where
@@ -143,9 +146,24 @@ module _ (s : List ℕ) {room : ℕ} (h : length s / 2 ≤ room) where
       go true q = (refl, cc)
       go false q = (cc, cc)
 
-pub into-front : (out s : List ℕ) → length s / 2 ≤ length out → take (length (paired s)) (hexInto out s) ≡ paired s
+pub into-front : (out s : List ℕ) → length s / 2 ≤ length out → allPairs s ≡ true → take (length (paired s)) (hexInto out s) ≡ paired s
 unfolding hexInto
-into-front out s h = rw (le-leb (length s / 2) (length out) h) (take-at (paired s) _ (length (paired s)) refl)
+into-front out s h e = rw (le-leb (length s / 2) (length out) h, e) (take-at (paired s) _ (length (paired s)) refl)
+
+-- ---- pairs counted
+-- those passed and those still to come are all
+pub record Counted (w : List ℕ) (i : ℕ) : Type 0 where
+  pub whole : i + length (paired (drop (i * 2) w)) ≡ length (paired w)
+  pub low : i ≤ length w / 2
+
+pub count-none : (w : List ℕ) → Counted w 0
+count-none w = let e : length (paired (drop (0 * 2) w)) ≡ length (paired w) = refl in record { whole = omega (arith, e); low = omega arith }
+
+pub count-more : (w : List ℕ) (i : ℕ) → Counted w i → i < length w / 2 → {v : ℕ} → paired (drop (i * 2) w) ≡ v ∷ paired (drop ((i + 1) * 2) w) → Counted w (i + 1)
+count-more w i c h e = let n = ap length e in record { whole = omega (arith, c .whole, n); low = omega arith }
+
+pub count-done : (w : List ℕ) (i : ℕ) → Counted w i → paired (drop (i * 2) w) ≡ [] → i ≡ length (paired w)
+count-done w i c e = let n = ap length e in omega (arith, c .whole, n)
 
 -- ---- bytes as hex
 

@@ -33,9 +33,9 @@ allPairs s = eqb (length (paired s) * 2) (length s)
 unfoldable pub hexOf : ℕ → List ℕ → Number
 hexOf room s = cond (leb (length s / 2) room) (cond (allPairs s) (Is (length (paired s))) Bad) Bad
 
--- and the buffer afterwards: the pairs before the first that is none
+-- and the buffer afterwards: the bytes in front, or as it was where there is no room or not all are pairs
 unfoldable pub hexInto : List ℕ → List ℕ → List ℕ
-hexInto out s = cond (leb (length s / 2) (length out)) (place out 0 (paired s)) out
+hexInto out s = cond (leb (length s / 2) (length out)) (cond (allPairs s) (place out 0 (paired s)) out) out
 
 -- ---- out
 

@@ -60,6 +60,25 @@ pub fn hex_digit(b: u8) -> u8
     16
 }
 
+// How many pairs of hex digits stand before the first that is none.
+fn count_pairs(word: &[u8]) -> usize
+    ensures { λ r. ⌜ r ≡ length (paired (now (word .entry))) ⌝ }
+{
+    let mut i = 0;
+    while i < word.len() / 2 {
+        let a = hex_digit(word[i * 2]);
+        let b = hex_digit(word[i * 2 + 1]);
+        if 15 < a {
+            return i;
+        }
+        if 15 < b {
+            return i;
+        }
+        i += 1;
+    }
+    i
+}
+
 // Stores the bytes of the pairs of hex digits up to the first that is none, and gives their number.
 fn unhex(word: &[u8], out: &mut [u8]) -> usize
     requires { ⌜ length (now word) / 2 ≤ length (now out) ⌝ }
@@ -81,18 +100,17 @@ fn unhex(word: &[u8], out: &mut [u8]) -> usize
     i
 }
 
-// The bytes of a word of hex pairs, if there is room for them all.
+// The bytes of a word of hex pairs, if there is room for them all. It judges before it stores: a refusal leaves the buffer as it was.
 pub fn hex(word: &[u8], out: &mut [u8]) -> Number
     ensures { λ r. ⌜ (r ≡ hexOf (length (now (out .entry))) (now (word .entry))) × (now (out .exit) ≡ hexInto (now (out .entry)) (now (word .entry))) ⌝ }
 {
     if out.len() < word.len() / 2 {
         return Number::Bad;
     }
-    let n = unhex(word, out);
-    if n * 2 != word.len() {
+    if count_pairs(word) * 2 != word.len() {
         return Number::Bad;
     }
-    Number::Is(n as u64)
+    Number::Is(unhex(word, out) as u64)
 }
 
 // ---- hex out

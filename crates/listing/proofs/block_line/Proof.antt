@@ -36,7 +36,7 @@ returns-3 c =
     let g = hex-good s {room = 512} (omega arith) (sym (h .hex .ensures .0) ∙ k .before .h .given .1) in
     let few = paired-few s in
     let n : c .before .before .front .result ≡ length (paired s) = c .before .before .front .ensures .1 ∙ omega (arith, g .1) in
-    let v : take (c .before .before .front .result) (h .hex .last .1 .0) ≡ paired s = rw (n, h .hex .ensures .1) (into-front _ s (omega arith)) in
+    let v : take (c .before .before .front .result) (h .hex .last .1 .0) ≡ paired s = rw (n, h .hex .ensures .1) (into-front _ s (omega arith) (g .0)) in
     c .read-block .ensures ∙ ap readBlock v ∙ passed _ (le-leb _ _ (e .if1 .left)) (passed _ (g .0) refl)
 
 pub block-line-spec : {M : Type 1} → statement M
