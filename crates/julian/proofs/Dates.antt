@@ -121,11 +121,11 @@ abbrev pub InYears : ℕ → Type 0
 InYears u = (62230291200000000 ≤ u) × (u ≤ 315569519999999999)
 
 module _ (u : ℕ) where
-  years-to : (leb (microOf first) u && leb u (microOf last)) ≡ true → InYears u
+  pub years-to : (leb (microOf first) u && leb u (microOf last)) ≡ true → InYears u
   years-to e =
       omega (arith, first-micro, last-micro, leb-true (microOf first) u (and-l _ (leb u (microOf last)) e), leb-true u (microOf last) (and-r (leb (microOf first) u) _ e))
 
-  years-from : InYears u → (leb (microOf first) u && leb u (microOf last)) ≡ true
+  pub years-from : InYears u → (leb (microOf first) u && leb u (microOf last)) ≡ true
   years-from y = join (le-leb (microOf first) u (omega (arith, first-micro))) (le-leb u (microOf last) (omega (arith, last-micro)))
 
   -- its pair is one, and stands for it
@@ -159,7 +159,17 @@ module _ (u : ℕ) where
 
 -- ---- what a pair is read as
 
--- a reading without a second 60 that shows the pair's microsecond
+-- a reading without a second 60 that shows the pair's microsecond, if the scale has its second
+pub stands-at : (t : Table) (k : ℕ) (p : JulianDate) → InYears (microRead p) → hasSecond (offsetsOf t (scaleOf k)) (readingAt uniform (microRead p) .label) ≡ true → Stands t k p (instantFor t (scaleOf k) (readingAt uniform (microRead p)))
+stands-at t k p y second =
+    let u = microRead p in
+    record {
+      reading = readingAt uniform u;
+      reads = record { is-admitted = shown-admitted u y t (scaleOf k) second; instant-is = refl };
+      not-added = second-uniform (readingAt uniform u .label) (reading-stands u (y .0) (y .1) .exists);
+      shows = reading-micro u (y .0) (y .1);
+    }
+
 pub read-given : (t : Table) (k : ℕ) (p : JulianDate) (x : ℤ) → readJulian t k p ≡ At x → (knownScale k ≡ true) × (accepted t ≡ true) × IsPair p × Stands t k p x
 unfolding readJulian instantShowing
 read-given t k p x e =
@@ -174,12 +184,7 @@ read-given t k p x e =
       search (and-l),
       search (and-l, and-r),
       record { is-midnight = search (and-l, and-r); is-fraction = search (and-l, and-r); in-years = search (and-l, and-r) },
-      record {
-        reading = readingAt uniform u;
-        reads = record { is-admitted = shown-admitted u y t s second; instant-is = same-instant (f .1) };
-        not-added = second-uniform (readingAt uniform u .label) (reading-stands u (y .0) (y .1) .exists);
-        shows = reading-micro u (y .0) (y .1);
-      },
+      subst (Stands t k p) (same-instant (f .1)) (stands-at t k p y second),
     )
   where
     same-instant : {y : ℤ} → At y ≡ At x → y ≡ x

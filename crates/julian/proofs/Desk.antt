@@ -1,6 +1,6 @@
 -- The night desk's Julian row and its doubles are right.
 -- Assumes nothing.
-use mathlib.Core.Path.{_≡_, refl, ap}
+use mathlib.Core.Path.{refl, ap}
 use Prim.Native.Nat.{ℕ, _+_}
 use lib.IntN.{pos}
 use lib.Ieee.{ofBits, ofInt, div, add, lt, eq, le}
@@ -38,6 +38,7 @@ desk =
       last-midnight = ap (λ (d : ℕ). midnightOf (d + 30)) days-last;
       tie = refl;
       no-tie = refl;
+      minus-zero-is = refl;
       minus-zero = refl;
       below-zero = refl;
       one = refl;

@@ -25,6 +25,7 @@ use Rattle.julian.specs.Promise.{Writes, ReadAs, InAddedSecond, Near, Pa
 use Rattle.julian.proofs.Fraction.{close, fraction-fine}
 use Rattle.julian.proofs.Midnight.{midnight-value}
 use Rattle.julian.proofs.Dates.{at-pair, Given, write-given, write-from, given-by, range-given, range-from, read-given, read-from, plain-back, given-admitted, given-few}
+use Rattle.julian.proofs.Refusals.{number-given, number-from, range-given as read-range-given, range-from as read-range-from, second-given, second-from}
 use Rattle.julian.proofs.Added.{added-read, added-write}
 
 most-uniform : (k : ℕ) → 1 ≤ k → mostSecond (scaleOf k) ≡ 59
@@ -76,6 +77,18 @@ module _ (t : Table) where
         read-exactly = λ k p x. (
           λ e. let g = read-given t k p x (at-instant _ x e) in (leb-true k 3 (g .0), g .1, g .2, g .3),
           λ g. let s = g .3 in ap instantResults (read-from t k x (s .reading) (s .reads) (s .not-added) p (le-leb k 3 (g .0)) (g .1) (g .2) (s .shows)),
+        );
+        read-number = λ k p. (
+          λ e. let g = number-given t k p e in (leb-true k 3 (g .0), g .1, g .2),
+          λ g. number-from t k p (le-leb k 3 (g .0)) (g .1) (g .2),
+        );
+        read-range = λ k p. (
+          λ e. let g = read-range-given t k p e in (leb-true k 3 (g .0), g .1, g .2, g .3),
+          λ g. read-range-from t k p (le-leb k 3 (g .0)) (g .1) (g .2) (g .3),
+        );
+        read-no-second = λ k p. (
+          λ e. let g = second-given t k p e in (leb-true k 3 (g .0), g .1, g .2, g .3, g .4),
+          λ g. second-from t k p (le-leb k 3 (g .0)) (g .1) (g .2) (g .3) (g .4),
         );
         minus-zero = minus-zero t;
         uniform-comes-back = λ x k p h w. let g = given k x p w in back k x p (g .0) (g .1) (omega (arith, given-admitted t k x p (g .0) (g .1) .on-clock .second-most, most-uniform k h));

@@ -24,7 +24,8 @@ pub record Desk : Type 0 where
   pub tie : microsOf (fin false 1 (negsuc 13)) ≡ 5273438
   -- 0x1.b26c2e8aee24fp-3 is 18,327,202,812.49999.. microseconds; its product in doubles would round up
   pub no-tie : microsOf (ofBits binary64 0x3fcb_26c2_e8ae_e24f) ≡ 18327202812
-  -- minus zero is a fraction; minus the smallest double and 1 are none
+  -- minus zero, the sign's bit alone, is a fraction; minus the smallest double and 1 are none
+  pub minus-zero-is : ofBits binary64 0x8000_0000_0000_0000 ≡ fin true 0 (pos 0)
   pub minus-zero : isFraction (fin true 0 (pos 0)) ≡ true
   pub below-zero : isFraction (fin true 1 (negsuc 1073)) ≡ false
   pub one : isFraction (fin false 1 (pos 0)) ≡ false

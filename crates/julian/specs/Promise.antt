@@ -3,15 +3,16 @@
 -- Assumes nothing.
 use mathlib.Core.Path.{_≡_}
 use mathlib.Core.Logic.{_↔_}
-use mathlib.Core.Bool.{true, false}
+use mathlib.Core.Bool.{true, false, _&&_}
 use Prim.Native.Nat.{ℕ, _+_, _*_, _/_, _%_, _≤_}
+use lib.Dec.{leb}
 use lib.IntN.{ℤ, pos, _+ℤ_}
 use lib.Ieee.{Float, fin}
 use lib.Ieee.Exact.{HasValue}
 use Rattle.leap.specs.declared.Table.{Table}
 use Rattle.leap.specs.Leap.{accepted}
 use Rattle.labels.specs.declared.Reading.{Reading}
-use Rattle.labels.specs.Seconds.{microOf}
+use Rattle.labels.specs.Seconds.{microOf, last}
 use Rattle.stamp.specs.declared.Scale.the-variants.{Utc}
 use Rattle.stamp.specs.Scales.{scaleOf}
 use Rattle.stamp.specs.Stamps.{instantResults}
@@ -27,6 +28,10 @@ Writes t k x p = julianResults (writeJulian t x k) ≡ (0, p)
 
 abbrev pub ReadAs : Table → ℕ → JulianDate → ℤ → Type 0
 ReadAs t k p x = instantResults (readJulian t k p) ≡ (0, x)
+
+-- `read_julian` refuses p with the number n
+abbrev pub ReadRefused : Table → ℕ → JulianDate → ℕ → Type 0
+ReadRefused t k p n = instantResults (readJulian t k p) .0 ≡ n
 
 -- the pair of the microsecond u: the midnight is exactly its day and a half; the fraction is at least 0, below 1, and within one part in 2 ^ 54 of the exact one
 pub record Near (p : JulianDate) (u : ℕ) : Type 0 where
@@ -60,6 +65,12 @@ pub record Pairs (t : Table) : Type 0 where
   pub out-of-range : (k : ℕ) (x : ℤ) → (julianResults (writeJulian t x k) .0 ≡ 7) ↔ ((k ≤ 3) × (accepted t ≡ true) × ((r : Reading) → Reads t (scaleOf k) r x → ⊥))
   -- a pair is read exactly when it is one and its microsecond is shown
   pub read-exactly : (k : ℕ) (p : JulianDate) (x : ℤ) → ReadAs t k p x ↔ ((k ≤ 3) × (accepted t ≡ true) × IsPair p × Stands t k p x)
+  -- NUMBER, 13: the midnight is not a whole number and a half, or the fraction not at least 0 and below 1
+  pub read-number : (k : ℕ) (p : JulianDate) → ReadRefused t k p 13 ↔ ((k ≤ 3) × (accepted t ≡ true) × ((isMidnight (p .midnight) && isFraction (p .fraction)) ≡ false))
+  -- RANGE, 7: the midnight is not of 1972 to 9999, or what is rounded is past their last microsecond
+  pub read-range : (k : ℕ) (p : JulianDate) → ReadRefused t k p 7 ↔ ((k ≤ 3) × (accepted t ≡ true) × ((isMidnight (p .midnight) && isFraction (p .fraction)) ≡ true) × ((inYears (p .midnight) && leb (microRead p) (microOf last)) ≡ false))
+  -- NOSECOND, 6: it is in these years, and no reading shows it
+  pub read-no-second : (k : ℕ) (p : JulianDate) → ReadRefused t k p 6 ↔ ((k ≤ 3) × (accepted t ≡ true) × IsPair p × (microRead p ≤ microOf last) × ((x : ℤ) → Stands t k p x → ⊥))
   -- minus zero is read as zero
   pub minus-zero : (k : ℕ) (m : Float) → readJulian t k (record { midnight = m; fraction = fin true 0 (pos 0) }) ≡ readJulian t k (record { midnight = m; fraction = fin false 0 (pos 0) })
   -- on the scales 1 to 3 every instant comes back exactly, and on UTC every one outside added seconds

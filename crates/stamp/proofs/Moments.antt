@@ -7,17 +7,14 @@ use Prim.Native.Nat.{ℕ, _+_, _*_, _/_, _%_, _≤_}
 use native.Mathlib.Omega.{arith}
 use lib.IntN.{ℤ}
 use Rattle.laws.proofs.Cases.{and-l, and-r, join}
-use Rattle.laws.proofs.Offsets.{Steps}
 use Rattle.answer.specs.declared.Refusal.{Refusal}
 use Rattle.answer.specs.declared.Refusal.the-variants.{Range as RANGE}
 use Rattle.answer.specs.Refusals.{refusing, allPass}
 use Rattle.answer.proofs.Orders.{refusing-map, was-passed}
-use Rattle.months.proofs.Laws.{days-most}
 use Rattle.leap.specs.declared.Table.{Table}
-use Rattle.leap.specs.Leap.{accepted}
 use Rattle.leap.proofs.Facts.{Accepted, accepted-to}
 use Rattle.labels.specs.Labels.{Offsets}
-use Rattle.labels.specs.Seconds.{microOf, secondOf, placeAt, labelOf, labelAt}
+use Rattle.labels.specs.Seconds.{microOf, labelOf, labelAt}
 use Rattle.labels.proofs.Falls.{Covered}
 use Rattle.labels.proofs.Labelled.{label-shows, place-few}
 use Rattle.labels.proofs.Years.{covered-to}

@@ -4,7 +4,7 @@ use mathlib.Core.Path.{_≡_, refl, sym, ap, ap₂, subst, _∙_}
 use mathlib.Core.Logic.{_↔_}
 use mathlib.Core.Bool.{Bool, true, false, true≢false}
 use mathlib.Core.List.{[], _∷_}
-use Prim.Native.Nat.{ℕ, _+_, _*_, _/_, _%_, _≤_}
+use Prim.Native.Nat.{ℕ, _+_, _*_, _/_, _%_}
 use native.Mathlib.Omega.{arith}
 use borrow.Author.Tests.{le-leb, leb-true}
 use lib.Dec.{leb}
@@ -13,7 +13,7 @@ use Rattle.laws.proofs.Cases.{by-test, and-l, and-r, join}
 use Rattle.laws.proofs.Offsets.{Steps}
 use Rattle.answer.specs.declared.Refusal.{Refusal}
 use Rattle.answer.specs.declared.Refusal.the-variants.{Range as RANGE, Ask as ASK, Table as TABLE}
-use Rattle.answer.specs.Refusals.{number, refusing}
+use Rattle.answer.specs.Refusals.{refusing}
 use Rattle.answer.proofs.Orders.{refused, none-refused, was-passed, number-some}
 use Rattle.leap.specs.declared.Table.{Table}
 use Rattle.leap.specs.Leap.{accepted}
@@ -23,7 +23,6 @@ use Rattle.labels.specs.declared.Reading.{Reading}
 use Rattle.labels.specs.Labels.{Offsets, labelTests}
 use Rattle.labels.specs.Seconds.{axisOf, inYears, labelAt, readingAt}
 use Rattle.labels.proofs.Falls.{Covered}
-use Rattle.labels.proofs.Exists.{Exists}
 use Rattle.labels.proofs.Admitted.{Admitted, admitted-to, admitted-from}
 use Rattle.labels.proofs.Years.{axis-second, covered-to, covered-from}
 use Rattle.labels.proofs.Labelled.{At, at-covered, at-label, found, label-at}
