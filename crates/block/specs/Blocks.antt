@@ -13,7 +13,7 @@ use Rattle.leap.specs.Leap.{accepted}
 use Rattle.leap.specs.Entries.{Entry, entries}
 use Rattle.block.specs.Numbers.{numberBytes}
 
--- twice the months since the entry before, plus 1 where the step is -1
+-- of an entry after another: twice the months since the entry before, plus 1 where the step is -1
 abbrev pub stepNumber : Entry → Entry → ℕ
 stepNumber e f = (f .0 - e .0) * 2 + cond (ltZ (f .1) (e .1)) 1 0
 
@@ -23,6 +23,7 @@ stepBytes [] = []
 stepBytes (e ∷ []) = []
 stepBytes (e ∷ f ∷ es) = numberBytes (stepNumber e f) ++ stepBytes (f ∷ es)
 
+-- the block of a table
 unfoldable pub blockOf : Table → List ℕ
 blockOf t = numberBytes (t .count) ++ stepBytes (entries t)
 

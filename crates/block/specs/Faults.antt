@@ -48,18 +48,19 @@ gapFine month n = ltb 0 (n / 2) && leb (month + n / 2) lastMonth
 
 -- ---- the block
 
+-- nothing, or a refusal and its place
 pub data Fault : Type 0 where
   noFault : Fault
   faultAt : Refusal → ℕ → Fault
 
--- of the bytes from a place on, where so many entries are left after one of this month
+-- of the bytes from a place on, where the numbers of so many entries are left after one of this month; a byte after the last is TAIL
 unfoldable pub faultFrom : ℕ → ℕ → ℕ → List ℕ → Fault
 faultFrom zero month place [] = noFault
 faultFrom zero month place (byte ∷ s) = faultAt TAIL place
 faultFrom (suc left) month place s =
     refusing (λ why. faultAt why place) (numberTests (gapFine month) s) (faultFrom left (month + numberValue s / 2) (place + numberSize s) (drop (numberSize s) s))
 
--- of a block: its count, and then an entry for each after the first, which is of month 0
+-- of a block: its count, and then a number for each entry after the first, which is of month 0
 unfoldable pub firstFault : List ℕ → Fault
 firstFault s =
     refusing (λ why. faultAt why 0) (numberTests countFine s) (faultFrom (numberValue s - 1) 0 (numberSize s) (drop (numberSize s) s))

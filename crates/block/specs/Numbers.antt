@@ -11,5 +11,6 @@ unfoldable pub groupsOf : ℕ → ℕ → List ℕ
 groupsOf zero n = []
 groupsOf (suc k) n = cond (ltb n 128) (n ∷ []) ((128 + n % 128) ∷ groupsOf k (n / 128))
 
+-- the bytes of a number
 abbrev pub numberBytes : ℕ → List ℕ
 numberBytes n = groupsOf 3 n

@@ -119,4 +119,4 @@ unfolding eqZ allBelow leapYear monthLength daysBefore oneApart placeRight accep
 further-rows = (quick is-B _ _, (written-noon, (quick is-B _ _, (refused-early, (ap (λ (t : Table). julianResults (writeJulian t (pos 0) 1)) is-B ∙ desk .julian-row, tt)))))
 
 pub worked : Worked
-worked = record { proved-set = proved-set; further-rows = further-rows }
+worked = record { named-blocks = named-right; proved-set = proved-set; further-rows = further-rows }
