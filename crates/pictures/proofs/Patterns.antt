@@ -1,7 +1,7 @@
 -- Patterns: byte by byte, from the front, and at a place.
 -- Assumes nothing.
-use mathlib.Core.Path.{_≡_, refl, ap, subst, _∙_}
-use mathlib.Core.Bool.{Bool, true, false, _&&_}
+use mathlib.Core.Path.{_≡_, refl, sym, ap, subst, _∙_}
+use mathlib.Core.Bool.{Bool, true, false, not, _&&_}
 use mathlib.Core.Logic.{_⊎_, inl, inr, ⊎-elim}
 use mathlib.Core.List.{List, [], _∷_, _++_}
 use Prim.Native.Nat.{ℕ, zero, suc, _+_, _≤_, _<_}
@@ -12,10 +12,11 @@ use borrow.Author.Tests.{eqb-true, leb-true}
 use lib.Dec.{eqb, leb}
 use lib.ListN.{length, take, drop, getD, drop-of-length-le}
 use lib.Seq.{drop-cons, take-length}
+use Rattle.laws.proofs.Branches.{and-no, holds}
 use Rattle.laws.proofs.Cases.{both, and-l, and-r, join, one-of}
 use Rattle.digits.specs.Decimals.{digitValue, allDigits}
-use Rattle.pictures.specs.Parts.{Digits, Numbers}
-use Rattle.pictures.specs.Reading.{asShown, like, filled, rightLength}
+use Rattle.pictures.specs.Parts.{Digits, Numbers, Fills}
+use Rattle.pictures.specs.Reading.{asShown, like, filled, rightLength, hasPicture}
 
 and-assoc : (a b c : Bool) → ((a && b) && c) ≡ (a && (b && c))
 and-assoc true b c = refl
@@ -115,3 +116,21 @@ lengths n size e =
 
 pub length-most : (n size : ℕ) → rightLength n size ≡ true → size ≤ n + 7
 length-most n size e = ⊎-elim (λ p. omega arith) (λ p. omega arith) (lengths n size e)
+
+-- one that has another length has no picture
+pub not-long : (cs s t : List ℕ) (n : ℕ) → rightLength n (length s) ≡ false → Fills cs n s t false
+not-long cs s t n e = record { has = and-no _ e; full = λ h. let z : false ≡ true = sym e ∙ and-l (rightLength n (length s)) _ h in cc }
+
+-- a text that fills a pattern: it has the picture, and the pattern's bytes are then the text in full
+module _ (cs : List ℕ) (n : ℕ) {s t : List ℕ} {r : Bool} (f : Fills cs n s t r) (e : not r ≡ false) where
+  pub has-it : hasPicture cs n s ≡ true
+  has-it = holds (f .has) e
+
+  pub is-full : t ≡ filled cs s
+  is-full = f .full has-it
+
+  pub is-alike : like cs t ≡ true
+  is-alike = ap (like cs) is-full ∙ and-r (rightLength n (length s)) _ has-it
+
+  pub is-short : length s ≤ n + 7
+  is-short = length-most n (length s) (and-l _ (like cs (filled cs s)) has-it)

@@ -6,7 +6,7 @@ ghost use lib.ListN.{length};
 ghost use Rattle.answer.specs.Buffers.{written, bufferAfter};
 ghost use Rattle.digits.specs.Decimals.{number};
 ghost use Rattle.pictures.specs.Pictures.{dateText, clockText, fractionText, pictureText};
-ghost use Rattle.pictures.specs.Parts.{Holds, Digits, Numbers};
+ghost use Rattle.pictures.specs.Parts.{Holds, Digits, Numbers, Fills};
 ghost use Rattle.pictures.specs.Reading.{asShown, like, rightLength, fieldsIn, readNumbered, readOfYear, readNamed, readFields};
 use answer::Written;
 
@@ -272,6 +272,18 @@ fn right_length(n: usize, size: usize) -> bool
     size <= n + 7
 }
 
+// Whether a text has a pattern's picture, of n bytes before the point. `t` holds the pattern, and then the text with its fraction in full.
+fn fills(pattern: &[u8], n: usize, text: &[u8], t: &mut [u8]) -> bool
+    requires { ⌜ (n ≤ 20) × (length (now pattern) ≡ n + 7) × (now t ≡ now pattern) ⌝ }
+    ensures { λ r. ⌜ Fills (now (pattern .entry)) n (now (text .entry)) (now (t .exit)) r ⌝ }
+{
+    if !right_length(n, text.len()) {
+        return false;
+    }
+    bytes::copy(text, t);
+    is_like(pattern, t)
+}
+
 // How many digits a text shows.
 fn digits_shown(size: usize, before: usize) -> u32
     requires { ⌜ size ≤ 27 ⌝ }
@@ -302,12 +314,8 @@ fn fields_in(t: &[u8], at: usize, digits: u32, date: Date) -> Fields
 fn read_numbered(text: &[u8]) -> FieldsAnswer
     ensures { λ r. ⌜ r ≡ readNumbered (now (text .entry)) ⌝ }
 {
-    if !right_length(19, text.len()) {
-        return FieldsAnswer::NoPicture;
-    }
     let mut t = *b"0000-00-00T00:00:00.000000";
-    bytes::copy(text, &mut t);
-    if !is_like(b"0000-00-00T00:00:00.000000", &t) {
+    if !fills(b"0000-00-00T00:00:00.000000", 19, text, &mut t) {
         return FieldsAnswer::NoPicture;
     }
     let digits = digits_shown(text.len(), 20);
@@ -318,12 +326,8 @@ fn read_numbered(text: &[u8]) -> FieldsAnswer
 fn read_of_year(text: &[u8]) -> FieldsAnswer
     ensures { λ r. ⌜ r ≡ readOfYear (now (text .entry)) ⌝ }
 {
-    if !right_length(17, text.len()) {
-        return FieldsAnswer::NoPicture;
-    }
     let mut t = *b"0000-000T00:00:00.000000";
-    bytes::copy(text, &mut t);
-    if !is_like(b"0000-000T00:00:00.000000", &t) {
+    if !fills(b"0000-000T00:00:00.000000", 17, text, &mut t) {
         return FieldsAnswer::NoPicture;
     }
     let digits = digits_shown(text.len(), 18);
@@ -334,12 +338,8 @@ fn read_of_year(text: &[u8]) -> FieldsAnswer
 fn read_named(text: &[u8]) -> FieldsAnswer
     ensures { λ r. ⌜ r ≡ readNamed (now (text .entry)) ⌝ }
 {
-    if !right_length(20, text.len()) {
-        return FieldsAnswer::NoPicture;
-    }
     let mut t = *b"0000 ??? 00 00:00:00.000000";
-    bytes::copy(text, &mut t);
-    if !is_like(b"0000 ??? 00 00:00:00.000000", &t) {
+    if !fills(b"0000 ??? 00 00:00:00.000000", 20, text, &mut t) {
         return FieldsAnswer::NoPicture;
     }
     let month = digits::month_named(t[5], t[6], t[7]);
