@@ -5,12 +5,12 @@ use Rattle.leap.specs.Entries.{entriesFrom, tableOf}
 use Rattle.block.specs.Numbers.{groupsOf}
 use Rattle.block.specs.Blocks.{stepBytes, blockOf}
 use Rattle.block.specs.Reading.{readGroups, readEntries, inBlock}
-use Rattle.block.specs.Desk.{named, edges, AllRight}
+use Rattle.block.specs.Desk.{named, edges, AllBlocksRight}
 
-pub named-right : AllRight named
+pub named-right : AllBlocksRight named
 unfolding entriesFrom tableOf groupsOf readGroups stepBytes blockOf readEntries inBlock
 named-right = (refl, ((refl, refl), ((refl, refl), ((refl, refl), tt))))
 
-pub edged : AllRight edges
+pub edged : AllBlocksRight edges
 unfolding entriesFrom tableOf groupsOf readGroups stepBytes blockOf readEntries inBlock
 edged = ((refl, refl), ((refl, refl), (refl, (refl, (refl, (refl, (refl, (refl, (refl, tt)))))))))

@@ -13,7 +13,7 @@ use Rattle.answer.specs.declared.Refusal.the-variants.{Cut as CUT, Groups as GR
 use Rattle.answer.specs.Refusals.{refusing}
 use Rattle.answer.proofs.Orders.{refusing-map}
 use Rattle.leap.specs.Entries.{Entry, firstEntry}
-use Rattle.leap.specs.Readers.{Outcome, entered, fault, after}
+use Rattle.leap.specs.Readers.{Outcome, entered, fault, joined}
 use Rattle.block.specs.declared.NumberAnswer.{NumberAnswer}
 use Rattle.block.specs.declared.NumberAnswer.the-variants.{Number, Cut, Groups}
 use Rattle.block.specs.Faults.{marks, numberSize, numberValue, someLast, shortest, numberTests, countFine, gapFine, Fault, noFault, faultAt, faultFrom, firstFault}
@@ -101,7 +101,7 @@ abbrev pub faultOf : Outcome → Fault
 faultOf (entered es) = noFault
 faultOf (fault why at) = faultAt why at
 
-fault-after : (es : List Entry) (o : Outcome) → faultOf (after es o) ≡ faultOf o
+fault-after : (es : List Entry) (o : Outcome) → faultOf (joined es o) ≡ faultOf o
 fault-after es (entered fs) = refl
 fault-after es (fault why at) = refl
 
@@ -129,7 +129,7 @@ unfolding readEntries faultFrom
 entries-fault zero e at [] = refl
 entries-fault zero e at (b ∷ s) = rw (ne-eqb (suc (length s)) 0 (omega arith))
 entries-fault (suc left) e at s =
-    number-fault at (gapFine (e .0)) (λ n k. after (e ∷ []) (readEntries left (nextEntry e n) (at + k) (drop k s))) s
+    number-fault at (gapFine (e .0)) (λ n k. joined (e ∷ []) (readEntries left (nextEntry e n) (at + k) (drop k s))) s
     (fault-after (e ∷ []) (readEntries left (nextEntry e (numberValue s)) (at + numberSize s) (drop (numberSize s) s)) ∙ entries-fault left (nextEntry e (numberValue s)) (at + numberSize s) (drop (numberSize s) s))
 
 pub block-fault : (s : List ℕ) → faultOf (inBlock s) ≡ firstFault s

@@ -15,9 +15,9 @@ use Rattle.answer.specs.Refusals.{number}
 use Rattle.answer.specs.Buffers.{writtenResults}
 use Rattle.answer.proofs.Orders.{number-some, numbers-differ}
 use Rattle.leap.specs.declared.Table.{Table}
-use Rattle.leap.specs.Leap.{lastMonth, accepted}
+use Rattle.leap.specs.Leap.{lastEntryMonth, accepted}
 use Rattle.leap.specs.Entries.{Entry, firstEntry, entriesFrom, entries, tableOf, Good}
-use Rattle.leap.specs.Readers.{noTable, tableResults, Outcome, entered, fault, after, tableRead}
+use Rattle.leap.specs.Readers.{noTable, tableResults, Outcome, entered, fault, joined, tableRead}
 use Rattle.leap.proofs.Facts.{Later, same-entry, accepted-to}
 use Rattle.leap.proofs.Entries.{Follow, from-long, entries-of, table-is, accepted-entries, accepted-of}
 use Rattle.leap.proofs.Readers.{was-entered}
@@ -42,7 +42,7 @@ module _ {e f : Entry} (l : Later e f) where
   gap = omega (arith, bit-small (e .1) (f .1))
 
   step-fine : gapFine (e .0) (stepNumber e f) ≡ true
-  step-fine = join (lt-ltb 0 (stepNumber e f / 2) (omega (arith, gap, l .rises))) (le-leb (e .0 + stepNumber e f / 2) lastMonth (omega (arith, gap, l .rises, l .early)))
+  step-fine = join (lt-ltb 0 (stepNumber e f / 2) (omega (arith, gap, l .rises))) (le-leb (e .0 + stepNumber e f / 2) lastEntryMonth (omega (arith, gap, l .rises, l .early)))
 
   step-gives : nextEntry e (stepNumber e f) ≡ f
   step-gives = same-entry (omega (arith, gap, l .rises)) (next-back (e .1) (f .1) (f .0 - e .0) (l .step))
@@ -54,7 +54,7 @@ entries-back e (f ∷ es) at h =
     let n = stepNumber e f in
     let rest = stepBytes (f ∷ es) in
     rw (read-written 2 n rest (step-small (h .0)), step-fine (h .0), drop-append-seam (numberBytes n) rest, step-gives (h .0))
-    (ap (after (e ∷ [])) (entries-back f es (at + length (numberBytes n)) (h .1)))
+    (ap (joined (e ∷ [])) (entries-back f es (at + length (numberBytes n)) (h .1)))
 
 block-back : (t : Table) → Good t → inBlock (blockOf t) ≡ entered (entries t)
 unfolding inBlock blockOf
@@ -78,7 +78,7 @@ was-number at fine follows es Groups e = let z : _≡_ {A = ℕ} 0 1 = cc in abs
 was-number at fine follows es (Number n size) e =
     by-test (fine n) (λ f. numbered n size f (rw f at e)) (λ f. let q = rw f at e in let z : _≡_ {A = ℕ} 0 1 = cc in absurd (omega arith))
 
-was-after : (e : Entry) (o : Outcome) (es : List Entry) → after (e ∷ []) o ≡ entered es → (fs : List Entry) × (o ≡ entered fs) × (es ≡ e ∷ fs)
+was-after : (e : Entry) (o : Outcome) (es : List Entry) → joined (e ∷ []) o ≡ entered es → (fs : List Entry) × (o ≡ entered fs) × (es ≡ e ∷ fs)
 was-after e (entered fs) es q = (fs, refl, cc)
 was-after e (fault why at) es q = let z : _≡_ {A = ℕ} 0 1 = cc in absurd (omega arith)
 
@@ -125,7 +125,7 @@ entries-only (suc left) e at s es h q =
     go refl (was-number at (gapFine (e .0)) rest es (readNumber s) q) (λ n size. entries-only left (nextEntry e n) (at + size) (drop size s))
   where
     rest : ℕ → ℕ → Outcome
-    rest n size = after (e ∷ []) (readEntries left (nextEntry e n) (at + size) (drop size s))
+    rest n size = joined (e ∷ []) (readEntries left (nextEntry e n) (at + size) (drop size s))
 
     go : {r : NumberAnswer} → readNumber s ≡ r → Numbered (gapFine (e .0)) rest es r
         → ((n size : ℕ) (fs : List Entry) → Bytes (drop size s) → readEntries left (nextEntry e n) (at + size) (drop size s) ≡ entered fs → Made left (nextEntry e n) (drop size s) fs) → Made (suc left) e s es

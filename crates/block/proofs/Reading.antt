@@ -12,9 +12,9 @@ use lib.IntN.{ℤ, pos}
 use lib.Signed.{mag}
 use borrow.Author.Tests.{ltb-true, leb-true, eq-eqb, ne-eqb}
 use Rattle.answer.specs.declared.Refusal.the-variants.{Table as TABLE, Tail as TAIL}
-use Rattle.leap.specs.Leap.{lastMonth, tabled}
+use Rattle.leap.specs.Leap.{lastEntryMonth, tabled}
 use Rattle.leap.specs.Entries.{Entry, firstEntry, noEntry}
-use Rattle.leap.specs.Readers.{found, Outcome, fault, after, tableRead}
+use Rattle.leap.specs.Readers.{found, Outcome, fault, joined, tableRead}
 use Rattle.leap.proofs.Entries.{Holds, holds-at, holds-more, holds-table}
 use Rattle.leap.proofs.Readers.{after-after}
 use Rattle.laws.proofs.Cases.{both}
@@ -30,8 +30,8 @@ use Rattle.block.proofs.Steps.{next-small}
 pub count-fine : (n : ℕ) → countFine n ≡ true → (0 < n) × (n ≤ 64)
 count-fine n e = let b = both (ltb 0 n) (leb n 64) e in (ltb-true _ _ (b .0), leb-true _ _ (b .1))
 
-pub gap-fine : (m n : ℕ) → gapFine m n ≡ true → (0 < n / 2) × (m + n / 2 ≤ lastMonth)
-gap-fine m n e = let b = both (ltb 0 (n / 2)) (leb (m + n / 2) lastMonth) e in (ltb-true _ _ (b .0), leb-true _ _ (b .1))
+pub gap-fine : (m n : ℕ) → gapFine m n ≡ true → (0 < n / 2) × (m + n / 2 ≤ lastEntryMonth)
+gap-fine m n e = let b = both (ltb 0 (n / 2)) (leb (m + n / 2) lastEntryMonth) e in (ltb-true _ _ (b .0), leb-true _ _ (b .1))
 
 -- ---- the entries
 
@@ -39,13 +39,13 @@ gap-fine m n e = let b = both (ltb 0 (n / 2)) (leb (m + n / 2) lastMonth) e in (
 pub record Reading (s : List ℕ) (whole : Outcome) (count : ℕ) (months : List ℕ) (offsets : List ℤ) (at k : ℕ) : Type 0 where
   pub prior : List Entry
   pub last : Entry
-  pub goes : after prior (readEntries (count - (k + 1)) last at (drop at s)) ≡ whole
+  pub goes : joined prior (readEntries (count - (k + 1)) last at (drop at s)) ≡ whole
   pub holds : Holds months offsets (prior ++ last ∷ [])
   pub sized : length prior ≡ k
   pub inside : k < count
   pub few : count ≤ 64
   pub placed : at ≤ length s
-  pub early : last .0 ≤ lastMonth
+  pub early : last .0 ≤ lastEntryMonth
   pub near : mag (last .1) ≤ 10 + k
 
 module _ {s : List ℕ} {whole : Outcome} {count : ℕ} {months : List ℕ} {offsets : List ℤ} {at k : ℕ} (h : Reading s whole count months offsets at k) where
@@ -59,7 +59,7 @@ module _ {s : List ℕ} {whole : Outcome} {count : ℕ} {months : List ℕ} {off
   pub offset-is : getD offsets k (pos 0) ≡ h .last .1
   offset-is = ap (λ e. e .1) here
 
-  pub month-early : getD months k 0 ≤ lastMonth
+  pub month-early : getD months k 0 ≤ lastEntryMonth
   month-early = rw month-is (h .early)
 
   size-is : length (h .prior ++ h .last ∷ []) ≡ k + 1
@@ -72,7 +72,7 @@ module _ {s : List ℕ} {whole : Outcome} {count : ℕ} {months : List ℕ} {off
   module _ (l : k + 1 < count) where
     -- what is there, by what is read here
     pub on-answer : {r : NumberAnswer} → readNumber (drop at s) ≡ r
-        → after (h .prior) (onNumber at (gapFine (h .last .0)) (λ n size. after (h .last ∷ []) (readEntries (count - (k + 1 + 1)) (nextEntry (h .last) n) (at + size) (drop size (drop at s)))) r) ≡ whole
+        → joined (h .prior) (onNumber at (gapFine (h .last .0)) (λ n size. joined (h .last ∷ []) (readEntries (count - (k + 1 + 1)) (nextEntry (h .last) n) (at + size) (drop size (drop at s)))) r) ≡ whole
     unfolding readEntries
     on-answer e =
         let c : count - (k + 1) ≡ suc (count - (k + 1 + 1)) = omega arith in

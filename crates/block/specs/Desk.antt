@@ -6,7 +6,7 @@ use Prim.Native.Nat.{ℕ}
 use lib.IntN.{pos}
 use lib.ListN.{length}
 use Rattle.leap.specs.declared.Table.{Table}
-use Rattle.leap.specs.Leap.{lastMonth, rising, filled, bulletinC}
+use Rattle.leap.specs.Leap.{lastEntryMonth, rising, filled, bulletinC}
 use Rattle.leap.specs.Readers.{noTable, tableResults}
 use Rattle.block.specs.Blocks.{blockOf}
 use Rattle.block.specs.Reading.{readBlock}
@@ -30,16 +30,16 @@ tableT = filled (0 ∷ 6 ∷ 12 ∷ []) (rising 3 10)
 abbrev pub tableN : Table
 tableN = filled (0 ∷ 6 ∷ []) (pos 10 ∷ pos 9 ∷ [])
 
-pub data Row : Type 0 where
+pub data BlockRow : Type 0 where
   -- a table takes so many bytes
-  takes : Table → ℕ → Row
+  takes : Table → ℕ → BlockRow
   -- a block is that of a table, and gives it
-  gives : List ℕ → Table → Row
+  gives : List ℕ → Table → BlockRow
   -- a block is refused with this number at this place, and gives the all-zero table
-  refuses : List ℕ → ℕ → ℕ → Row
+  refuses : List ℕ → ℕ → ℕ → BlockRow
 
 -- the blocks that the desk names
-abbrev pub named : List Row
+abbrev pub named : List BlockRow
 named =
     takes bulletinC 29
     ∷ gives blockB bulletinC
@@ -48,11 +48,11 @@ named =
     ∷ []
 
 -- the same for what the desk's rows do not show
-abbrev pub edges : List Row
+abbrev pub edges : List BlockRow
 edges =
     -- one entry; the last month, and the one past it; a number of 0
     gives (0x01 ∷ []) (filled (0 ∷ []) (pos 10 ∷ []))
-    ∷ gives (0x02 ∷ 0x9E ∷ 0xE1 ∷ 0x0B ∷ []) (filled (0 ∷ lastMonth ∷ []) (rising 2 10))
+    ∷ gives (0x02 ∷ 0x9E ∷ 0xE1 ∷ 0x0B ∷ []) (filled (0 ∷ lastEntryMonth ∷ []) (rising 2 10))
     ∷ refuses (0x02 ∷ 0xA0 ∷ 0xE1 ∷ 0x0B ∷ []) 11 1
     ∷ refuses (0x02 ∷ 0x00 ∷ []) 11 1
     -- a missing number's place is the block's length; three marked bytes are GROUPS, two and the end CUT
@@ -64,11 +64,11 @@ edges =
     ∷ refuses (0x01 ∷ 0x80 ∷ 0x80 ∷ 0x80 ∷ []) 12 1
     ∷ []
 
-abbrev pub Right : Row → Type 0
-Right (takes t n) = length (blockOf t) ≡ n
-Right (gives s t) = (blockOf t ≡ s) × (tableResults (readBlock s) ≡ (0, 0, t))
-Right (refuses s number place) = tableResults (readBlock s) ≡ (number, place, noTable)
+abbrev pub BlockRight : BlockRow → Type 0
+BlockRight (takes t n) = length (blockOf t) ≡ n
+BlockRight (gives s t) = (blockOf t ≡ s) × (tableResults (readBlock s) ≡ (0, 0, t))
+BlockRight (refuses s number place) = tableResults (readBlock s) ≡ (number, place, noTable)
 
-abbrev pub AllRight : List Row → Type 0
-AllRight [] = Unit {0}
-AllRight (r ∷ rs) = Right r × AllRight rs
+abbrev pub AllBlocksRight : List BlockRow → Type 0
+AllBlocksRight [] = Unit {0}
+AllBlocksRight (r ∷ rs) = BlockRight r × AllBlocksRight rs

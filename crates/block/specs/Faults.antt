@@ -8,7 +8,7 @@ use lib.ListN.{length, drop, getD}
 use Rattle.answer.specs.declared.Refusal.{Refusal}
 use Rattle.answer.specs.declared.Refusal.the-variants.{Cut as CUT, Groups as GROUPS, Table as TABLE, Tail as TAIL}
 use Rattle.answer.specs.Refusals.{refusing}
-use Rattle.leap.specs.Leap.{lastMonth}
+use Rattle.leap.specs.Leap.{lastEntryMonth}
 
 -- ---- the number with which bytes begin
 
@@ -44,7 +44,7 @@ countFine n = ltb 0 n && leb n 64
 
 -- a gap of at least a month after this one, and no month past December 9999
 abbrev pub gapFine : ℕ → ℕ → Bool
-gapFine month n = ltb 0 (n / 2) && leb (month + n / 2) lastMonth
+gapFine month n = ltb 0 (n / 2) && leb (month + n / 2) lastEntryMonth
 
 -- ---- the block
 

@@ -10,7 +10,7 @@ use lib.ListN.{length, drop}
 use Rattle.answer.specs.declared.Refusal.the-variants.{Cut as CUT, Groups as GROUPS, Table as TABLE, Tail as TAIL}
 use Rattle.leap.specs.declared.TableRead.{TableRead}
 use Rattle.leap.specs.Entries.{Entry, firstEntry}
-use Rattle.leap.specs.Readers.{Outcome, entered, fault, after, tableRead}
+use Rattle.leap.specs.Readers.{Outcome, entered, fault, joined, tableRead}
 use Rattle.block.specs.declared.NumberAnswer.{NumberAnswer}
 use Rattle.block.specs.declared.NumberAnswer.the-variants.{Number, Cut, Groups}
 use Rattle.block.specs.Faults.{countFine, gapFine}
@@ -55,7 +55,7 @@ onNumber at fine follows (Number n size) = cond (fine n) (follows n size) (fault
 unfoldable pub readEntries : ℕ → Entry → ℕ → List ℕ → Outcome
 readEntries zero e at s = cond (eqb (length s) 0) (entered (e ∷ [])) (fault TAIL at)
 readEntries (suc left) e at s =
-    onNumber at (gapFine (e .0)) (λ n size. after (e ∷ []) (readEntries left (nextEntry e n) (at + size) (drop size s))) (readNumber s)
+    onNumber at (gapFine (e .0)) (λ n size. joined (e ∷ []) (readEntries left (nextEntry e n) (at + size) (drop size s))) (readNumber s)
 
 -- what a block holds
 unfoldable pub inBlock : List ℕ → Outcome

@@ -7,7 +7,7 @@ ghost use lib.Dec.{ltb};
 ghost use lib.ListN.{length, take, drop};
 ghost use lib.Seq.{sets};
 ghost use lib.Signed.{mag};
-ghost use Rattle.leap.specs.Leap.{lastMonth, tabled, accepted};
+ghost use Rattle.leap.specs.Leap.{lastEntryMonth, tabled, accepted};
 ghost use Rattle.leap.specs.Entries.{firstEntry};
 ghost use Rattle.leap.specs.Readers.{tableRead};
 ghost use Rattle.block.specs.Numbers.{numberBytes};
@@ -113,7 +113,7 @@ fn count_fine(n: u32) -> bool
 
 // A gap of at least a month, and no month past December 9999.
 fn gap_fine(before: u32, n: u32) -> bool
-    requires { ⌜ (before ≤ lastMonth) × (n < 128 ^ 3) ⌝ }
+    requires { ⌜ (before ≤ lastEntryMonth) × (n < 128 ^ 3) ⌝ }
     ensures { λ r. ⌜ r ≡ gapFine before n ⌝ }
 {
     let gap = n / 2;
@@ -187,7 +187,7 @@ struct Block {
 
 // Twice the months from an entry to the next, plus 1 where the step is -1.
 fn step_number(month: u32, offset: i32, next_month: u32, next_offset: i32) -> u32
-    requires { ⌜ (month ≤ «next_month») × («next_month» ≤ lastMonth) ⌝ }
+    requires { ⌜ (month ≤ «next_month») × («next_month» ≤ lastEntryMonth) ⌝ }
     ensures { λ r. ⌜ r ≡ stepNumber (month, offset) («next_month», «next_offset») ⌝ }
 {
     let gap = next_month - month;

@@ -31,7 +31,7 @@ use Rattle.labels.proofs.Labelled.{At, at-covered, one, found as found-second}
 use Rattle.clock.specs.declared.TickAnswer.{TickAnswer}
 use Rattle.clock.specs.declared.TickAnswer.the-variants.{Next, Refused}
 use Rattle.clock.specs.Clock.{start, tick, tickResults, onward, after}
-use Rattle.clock.specs.Promise.{first, last, admits, Follows, Shows, ended, Ends, Ticking, AllTick}
+use Rattle.clock.specs.Promise.{firstLabel, lastLabel, admits, Follows, Shows, ended, Ends, Ticking, AllTick}
 use Rattle.clock.proofs.Days.{days-by-entries}
 use Rattle.clock.proofs.Rule.{Right, end-minute, begins-minute, ticks}
 
@@ -93,14 +93,14 @@ module _ (t : Table) (ok : accepted t ≡ true) where
 
   -- ---- the ticks
 
-  starts : after t 0 ≡ Next first
+  starts : after t 0 ≡ Next firstLabel
   unfolding after start
-  starts = none-refused Refused ((accepted t, TABLE) ∷ []) (Next first) (join ok refl)
+  starts = none-refused Refused ((accepted t, TABLE) ∷ []) (Next firstLabel) (join ok refl)
 
-  first-at : At o first (tai 0)
+  first-at : At o firstLabel (tai 0)
   unfolding tai
   first-at =
-      begins-minute o st first (62230291210 + 0) (omega (arith, length-least firstMonth)) refl (omega (arith, ten, first-second))
+      begins-minute o st firstLabel (62230291210 + 0) (omega (arith, length-least firstMonth)) refl (omega (arith, ten, first-second))
 
   onward-right : (n : ℕ) (p : TickAnswer) → Right o (tai n) p → Right o (tai (suc n)) (onward t p)
   unfolding tick o tai
@@ -130,15 +130,15 @@ module _ (t : Table) (ok : accepted t ≡ true) where
   shows-it l n a =
       ⊎-elim (λ w. w .1 .1 .0 ∙ ap Next (one o st (w .1 .0) l (tai n) (w .1 .1 .1) a)) (λ w. absurd (omega (arith, in-time l n a))) (told n)
 
-  last-at : At o last (tai count)
+  last-at : At o lastLabel (tai count)
   unfolding tai count
   last-at =
       let length : monthLength lastMonth ≡ 31 = omega (arith, days-next lastMonth, days-last, days-end) in
-      omega (arith, end-minute o last (omega arith), last-second, st .low lastMonth, turn (o lastMonth) (o endMonth) (st .by-one lastMonth), ap up (st .at-rest), ap down (st .at-rest))
+      omega (arith, end-minute o lastLabel (omega arith), last-second, st .low lastMonth, turn (o lastMonth) (o endMonth) (st .by-one lastMonth), ap up (st .at-rest), ap down (st .at-rest))
 
   -- ---- one tick
 
-  ticks-on : (l : Label) → admits t l ≡ true → ((l′ : Label) × ((tickResults (tick t l) ≡ (0, l′)) × Follows t l l′)) ⊎ ((l ≡ last) × (tickResults (tick t l) ≡ ended))
+  ticks-on : (l : Label) → admits t l ≡ true → ((l′ : Label) × ((tickResults (tick t l) ≡ (0, l′)) × Follows t l l′)) ⊎ ((l ≡ lastLabel) × (tickResults (tick t l) ≡ ended))
   unfolding after tai
   ticks-on l e =
       let n = found l e .0 in
@@ -163,7 +163,7 @@ module _ (t : Table) (ok : accepted t ≡ true) where
       ))
       (λ w.
       let same : n ≡ count = omega (arith, in-time l n a) in
-      (one o st l last (tai count) (subst (λ (k : ℕ). At o l (tai k)) same a) last-at, ap tickResults (sym on ∙ w .1)))
+      (one o st l lastLabel (tai count) (subst (λ (k : ℕ). At o l (tai k)) same a) last-at, ap tickResults (sym on ∙ w .1)))
       (told (suc n))
 
   -- ---- all ticks, in the scope's numbers
@@ -176,12 +176,12 @@ module _ (t : Table) (ok : accepted t ≡ true) where
   at : (n : ℕ) (l : Label) → Shows t n l → At o l (tai n)
   at n l e = subst (Right o (tai n)) (next (after t n) l e) (right n)
 
-  seconds : (n : ℕ) (l : Label) → Shows t n l → axisOf (offsetAt t) (whole l) ≡ axisOf (offsetAt t) (whole first) +ℤ pos (1000000 * n)
+  seconds : (n : ℕ) (l : Label) → Shows t n l → axisOf (offsetAt t) (whole l) ≡ axisOf (offsetAt t) (whole firstLabel) +ℤ pos (1000000 * n)
   unfolding o tai
   seconds n l e =
       axis-second (offsetAt t) (whole l) (62230291210 + n) (at n l e .stands)
       ∙ sum
-      ∙ ap (λ z. z +ℤ pos (1000000 * n)) (sym (axis-second (offsetAt t) (whole first) (62230291210 + 0) (first-at .stands)))
+      ∙ ap (λ z. z +ℤ pos (1000000 * n)) (sym (axis-second (offsetAt t) (whole firstLabel) (62230291210 + 0) (first-at .stands)))
     where
       sum : pos (1000000 * (62230291210 + n) + 0) ≡ pos (1000000 * (62230291210 + 0) + 0) +ℤ pos (1000000 * n)
       sum = ap pos (omega arith)
@@ -190,7 +190,7 @@ module _ (t : Table) (ok : accepted t ≡ true) where
   ends =
       record {
         goes-on = λ n h. ⊎-elim (λ w. (w .1 .0, ap tickResults (w .1 .1 .0))) (λ w. absurd (omega arith)) (told n);
-        ends-with = ap tickResults (shows-it last count last-at);
+        ends-with = ap tickResults (shows-it lastLabel count last-at);
         stays-refused = λ n h. ⊎-elim (λ w. absurd (omega arith)) (λ w. ap tickResults (w .1)) (told n);
       }
 

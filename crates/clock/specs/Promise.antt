@@ -15,11 +15,11 @@ use Rattle.labels.specs.Seconds.{axisOf}
 use Rattle.labels.specs.Promise.{hasLabel, Days}
 use Rattle.clock.specs.Clock.{tick, tickResults, after}
 
-abbrev pub first : Label
-first = label 1972 1 1 0 0 0
+abbrev pub firstLabel : Label
+firstLabel = label 1972 1 1 0 0 0
 
-abbrev pub last : Label
-last = label 9999 12 31 23 59 59
+abbrev pub lastLabel : Label
+lastLabel = label 9999 12 31 23 59 59
 
 -- UTC under the table has the label, from 1972-01-01 00:00:00 to the end of 9999
 abbrev pub admits : Table → Label → Bool
@@ -42,7 +42,7 @@ ended = (7, noLabel)
 -- the clock goes on for `count` ticks to the last second of 9999; past it RANGE comes and stays
 pub record Ends (t : Table) (count : ℕ) : Type 0 where
   pub goes-on : (n : ℕ) → n ≤ count → (l : Label) × Shows t n l
-  pub ends-with : Shows t count last
+  pub ends-with : Shows t count lastLabel
   pub stays-refused : (n : ℕ) → count < n → tickResults (after t n) ≡ ended
 
 -- "With a +1 entry the day before has a second 23:59:60. With a -1 entry the day before has no 23:59:59. All other UTC days have 86,400 seconds."
@@ -54,9 +54,9 @@ DaysByEntries t = Days (offsetAt t) (λ m. StepUp t (m + 1)) (λ m. StepDown t (
 pub record Ticking (t : Table) : Type 0 where
   -- which seconds are admitted
   pub days-by-entries : DaysByEntries t
-  pub starts-in-1972 : Shows t 0 first
+  pub starts-in-1972 : Shows t 0 firstLabel
   -- a tick of an admitted label gives the next admitted one, and RANGE after the last second of 9999
-  pub ticks-to-the-next : (l : Label) → admits t l ≡ true → ((l′ : Label) × ((tickResults (tick t l) ≡ (0, l′)) × Follows t l l′)) ⊎ ((l ≡ last) × (tickResults (tick t l) ≡ ended))
+  pub ticks-to-the-next : (l : Label) → admits t l ≡ true → ((l′ : Label) × ((tickResults (tick t l) ≡ (0, l′)) × Follows t l l′)) ⊎ ((l ≡ lastLabel) × (tickResults (tick t l) ≡ ended))
   -- every admitted second once
   pub shows-every-second : (l : Label) → admits t l ≡ true → (n : ℕ) × Shows t n l
   pub shows-it-once : (j k : ℕ) (l : Label) → Shows t j l → Shows t k l → j ≡ k
@@ -64,7 +64,7 @@ pub record Ticking (t : Table) : Type 0 where
   pub in-calendar-order : (j k : ℕ) (l l′ : Label) → j < k → Shows t j l → Shows t k l′ → Before l l′
   pub shows-no-other : (n : ℕ) (l : Label) → Shows t n l → admits t l ≡ true
   -- n seconds after the first label, on UTC's axis
-  pub keeps-the-seconds : (n : ℕ) (l : Label) → Shows t n l → axisOf (offsetAt t) (whole l) ≡ axisOf (offsetAt t) (whole first) +ℤ pos (1000000 * n)
+  pub keeps-the-seconds : (n : ℕ) (l : Label) → Shows t n l → axisOf (offsetAt t) (whole l) ≡ axisOf (offsetAt t) (whole firstLabel) +ℤ pos (1000000 * n)
   pub ends : (count : ℕ) × Ends t count
 
 abbrev pub AllTick : Type 0

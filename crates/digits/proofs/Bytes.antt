@@ -12,7 +12,7 @@ use lib.Seq.{length-take-le, take-all, take-at}
 use Rattle.laws.specs.Placed.{place}
 use Rattle.laws.proofs.Cases.{and-l, and-r, join}
 use Rattle.laws.proofs.Placed.{length-place, place-then}
-use Rattle.digits.specs.Bytes.{bytesAt, sameBytes, next, appended, Appended, Placed}
+use Rattle.digits.specs.Bytes.{bytesAt, sameBytes, endOf, appended, Appended, Placed}
 
 pub bytes-length : (s : List ℕ) (i w : ℕ) → length (bytesAt s i w) ≡ w
 bytes-length s i zero = refl
@@ -39,7 +39,7 @@ rest-is l i h = take-all (21 - i) (drop i l) (simp length-drop (omega arith))
 
 module _ (l : List ℕ) (i : ℕ) (v : List ℕ) where
   pub room-yes : i + length v ≤ length l → {o : List ℕ} → o ≡ place l i v → Appended l i v (i + length v) o
-  unfolding next appended
+  unfolding endOf appended
   room-yes h {o} e =
       let n : length o ≡ length l = ap length e ∙ length-place l i v h in
       record {
@@ -49,7 +49,7 @@ module _ (l : List ℕ) (i : ℕ) (v : List ℕ) where
       }
 
   pub room-no : length l < i + length v → {r : ℕ} → r ≡ min i (length l) → Appended l i v r l
-  unfolding next appended
+  unfolding endOf appended
   room-no h {r} e =
       record {
         end = rw (lt-leb (i + length v) (length l) h) e;
@@ -71,7 +71,7 @@ module _ (l a b : List ℕ) (h : length a + length b ≤ length l) {m o : List �
   size = ap length first ∙ simp (length-append, length-drop) (omega arith)
 
   pub both : take s o ≡ a ++ b
-  unfolding next appended
+  unfolding endOf appended
   both =
       let k : length a + length b ≤ length m = omega (arith, size) in
       let e : s ≡ length a + length b = q .end ∙ rw (le-leb (length a + length b) (length m) k) in
@@ -87,7 +87,7 @@ module _ (l : List ℕ) (i : ℕ) (v : List ℕ) {r : ℕ} {o : List ℕ} (h : i
   is-placed e q = record { end = e; text = q; size = ap length q ∙ length-place l i v h; inside = omega arith }
 
   pub placed : Appended l i v r o → Placed l i v r o
-  unfolding next appended
+  unfolding endOf appended
   placed p = is-placed (p .end ∙ rw (le-leb (i + length v) (length l) h)) (p .text ∙ rw (le-leb (i + length v) (length l) h))
 
 -- the same text by another name

@@ -20,7 +20,7 @@ use mir.Val.{SFits, hbits, toZ, ofZ}
 use mir.Facts.{toZ-ofZ}
 use Rattle.laws.proofs.Cases.{pick, and-l, and-r}
 use Rattle.digits.specs.Bytes.{bytesAt}
-use Rattle.digits.specs.Decimals.{isDigit, digitValue, allDigits, spelled, number, digitsOf, widthOf, decimalText, signedText, decimalOf, Within}
+use Rattle.digits.specs.Decimals.{isDigit, digitValue, allDigits, spelled, numberAt, digitsOf, widthOf, decimalText, signedText, decimalOf, Within}
 use Rattle.digits.specs.declared.Number.{Number}
 use Rattle.digits.specs.declared.Number.the-variants.{Is, Bad}
 use Rattle.digits.proofs.Bytes.{bytes-length}
@@ -128,7 +128,7 @@ spelled-lt (b ∷ l) a =
     lt-of-lt-of-le (spelled-lt l (a * 10 + digitValue b))
     (rw (pow-succ', ← mul-assoc) (mul-le-mul-right (10 ^ length l) (omega (arith, value-most b))))
 
-pub number-lt : (s : List ℕ) (i w : ℕ) → number s i w < 10 ^ w
+pub number-lt : (s : List ℕ) (i w : ℕ) → numberAt s i w < 10 ^ w
 number-lt s i w =
     let h = spelled-lt (bytesAt s i w) 0 in
     rw (bytes-length s i w, zero-add, one-mul) at h

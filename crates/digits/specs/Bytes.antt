@@ -32,8 +32,8 @@ abbrev pub fits : List ℕ → ℕ → List ℕ → Bool
 fits l i vs = leb (i + length vs) (length l)
 
 -- where the next text goes
-unfoldable pub next : List ℕ → ℕ → List ℕ → ℕ
-next l i vs = cond (fits l i vs) (i + length vs) (min i (length l))
+unfoldable pub endOf : List ℕ → ℕ → List ℕ → ℕ
+endOf l i vs = cond (fits l i vs) (i + length vs) (min i (length l))
 
 unfoldable pub appended : List ℕ → ℕ → List ℕ → List ℕ
 appended l i vs = cond (fits l i vs) (place l i vs) l
@@ -44,7 +44,7 @@ Counts n l = (n ≤ length l) × (n ≡ length (take n l))
 
 -- a text appended: where the next goes, and the buffer. The third part follows, and spares callers that proof.
 pub record Appended (l : List ℕ) (i : ℕ) (vs : List ℕ) (r : ℕ) (now : List ℕ) : Type 0 where
-  pub end : r ≡ next l i vs
+  pub end : r ≡ endOf l i vs
   pub text : now ≡ appended l i vs
   pub counts : Counts r now
 
@@ -56,7 +56,7 @@ pub record Placed (l : List ℕ) (i : ℕ) (vs : List ℕ) (r : ℕ) (now : List
   pub inside : r ≤ length l
 
 -- 21 bytes that end with a text, with one before it for a sign
-pub record Ends (bytes : List ℕ) (from : ℕ) (text : List ℕ) : Type 0 where
+pub record EndsWith (bytes : List ℕ) (from : ℕ) (text : List ℕ) : Type 0 where
   pub behind : drop from bytes ≡ text
   pub whole : length bytes ≡ 21
   pub low : 1 ≤ from

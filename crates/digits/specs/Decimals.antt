@@ -51,8 +51,8 @@ spelled n [] = n
 spelled n (b ∷ s) = spelled (n * 10 + digitValue b) s
 
 -- the number that w bytes from index i on spell
-abbrev pub number : List ℕ → ℕ → ℕ → ℕ
-number s i w = spelled 0 (bytesAt s i w)
+abbrev pub numberAt : List ℕ → ℕ → ℕ → ℕ
+numberAt s i w = spelled 0 (bytesAt s i w)
 
 -- plain digits, one or more, of a number up to most
 unfoldable pub decimalOf : ℕ → List ℕ → Number

@@ -6,7 +6,7 @@ ghost use Prim.Native.Nat.{_+_, _≤_, _<_};
 ghost use lib.IntN.{natAbs};
 ghost use lib.ListN.{length, getD};
 ghost use Rattle.laws.specs.Placed.{place};
-ghost use Rattle.digits.specs.Bytes.{sameBytes, Appended, Ends};
+ghost use Rattle.digits.specs.Bytes.{sameBytes, Appended, EndsWith};
 ghost use Rattle.digits.specs.Decimals.{isDigit, digitValue, digitsOf, widthOf, decimalOf, decimalText, signedText};
 ghost use Rattle.digits.specs.Months.{monthName, monthNamed};
 
@@ -167,7 +167,7 @@ fn width(n: u64) -> usize
 }
 
 fn unsigned_text(n: u64) -> Text
-    ensures { λ r. ⌜ Ends (r .bytes) (r .from) (decimalText n) ⌝ }
+    ensures { λ r. ⌜ EndsWith (r .bytes) (r .from) (decimalText n) ⌝ }
 {
     let bytes = all_places(n);
     Text {

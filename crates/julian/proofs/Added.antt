@@ -16,7 +16,8 @@ use Rattle.leap.proofs.Facts.{accepted-to}
 use Rattle.labels.specs.declared.Label.{Label}
 use Rattle.labels.specs.declared.Reading.{Reading}
 use Rattle.labels.specs.Labels.{Offsets, uniform, lastMinute, inLastMinute, monthOf, minuteIn, hasSecond}
-use Rattle.labels.specs.Seconds.{secondOf, microOf, axisOf, lastMonth, readingAt}
+use Rattle.labels.specs.Seconds.{secondOf, microOf, axisOf, lastMonth}
+use Rattle.labels.specs.Back.{readingAt}
 use Rattle.labels.proofs.Facts.{second-yes}
 use Rattle.labels.proofs.Turn.{minute-range}
 use Rattle.labels.proofs.Falls.{month-at}

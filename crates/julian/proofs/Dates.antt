@@ -19,7 +19,8 @@ use Rattle.leap.specs.Leap.{accepted}
 use Rattle.leap.proofs.Facts.{accepted-to}
 use Rattle.labels.specs.declared.Reading.{Reading}
 use Rattle.labels.specs.Labels.{Offsets, uniform, monthOf, hasSecond, admitted}
-use Rattle.labels.specs.Seconds.{secondOf, microOf, first, last, readingAt}
+use Rattle.labels.specs.Seconds.{secondOf, microOf, firstReading, lastReading}
+use Rattle.labels.specs.Back.{readingAt}
 use Rattle.labels.proofs.Facts.{second-to, second-yes}
 use Rattle.labels.proofs.Exists.{second-uniform}
 use Rattle.labels.proofs.Admitted.{Admitted, admitted-to, admitted-from}
@@ -29,7 +30,7 @@ use Rattle.stamp.specs.declared.Scale.{Scale}
 use Rattle.stamp.specs.declared.Stamp.{Stamp}
 use Rattle.stamp.specs.declared.InstantAnswer.the-variants.{At, Refused as NoInstant}
 use Rattle.stamp.specs.declared.ShownAnswer.{ShownAnswer}
-use Rattle.stamp.specs.declared.ShownAnswer.the-variants.{Shows, Refused as NotShown}
+use Rattle.stamp.specs.declared.ShownAnswer.the-variants.{Shown, Refused as NotShown}
 use Rattle.stamp.specs.Scales.{scaleOf, knownScale, scaleTests, offsetsOf, mostSecond, instantFor}
 use Rattle.stamp.specs.Back.{inRange, stampAt, shownOf, showingTests, instantShowing}
 use Rattle.stamp.specs.Promise.{Reads}
@@ -48,12 +49,12 @@ use Rattle.julian.proofs.Midnight.{midnight-fine, day-back, years-fine}
 
 -- the pair of what a scale shows
 abbrev pub dated : ShownAnswer → JulianAnswer
-dated (Shows u) = Dated (pairOf u)
+dated (Shown u) = Dated (pairOf u)
 dated (NotShown why) = Refused why
 
 pub written : (t : Table) (x : ℤ) (k : ℕ) → dated (shownOf t x k) ≡ writeJulian t x k
 unfolding shownOf writeJulian
-written t x k = refusing-map dated NotShown (scaleTests t k ++ (inRange t (scaleOf k) x, RANGE) ∷ []) (Shows (microOf (stampAt t (scaleOf k) x .reading)))
+written t x k = refusing-map dated NotShown (scaleTests t k ++ (inRange t (scaleOf k) x, RANGE) ∷ []) (Shown (microOf (stampAt t (scaleOf k) x .reading)))
 
 -- from an answer's numbers back to the answer
 pub at-pair : (a : JulianAnswer) (p : JulianDate) → julianResults a ≡ (0, p) → a ≡ Dated p
@@ -121,12 +122,12 @@ abbrev pub InYears : ℕ → Type 0
 InYears u = (62230291200000000 ≤ u) × (u ≤ 315569519999999999)
 
 module _ (u : ℕ) where
-  pub years-to : (leb (microOf first) u && leb u (microOf last)) ≡ true → InYears u
+  pub years-to : (leb (microOf firstReading) u && leb u (microOf lastReading)) ≡ true → InYears u
   years-to e =
-      omega (arith, first-micro, last-micro, leb-true (microOf first) u (and-l _ (leb u (microOf last)) e), leb-true u (microOf last) (and-r (leb (microOf first) u) _ e))
+      omega (arith, first-micro, last-micro, leb-true (microOf firstReading) u (and-l _ (leb u (microOf lastReading)) e), leb-true u (microOf lastReading) (and-r (leb (microOf firstReading) u) _ e))
 
-  pub years-from : InYears u → (leb (microOf first) u && leb u (microOf last)) ≡ true
-  years-from y = join (le-leb (microOf first) u (omega (arith, first-micro))) (le-leb u (microOf last) (omega (arith, last-micro)))
+  pub years-from : InYears u → (leb (microOf firstReading) u && leb u (microOf lastReading)) ≡ true
+  years-from y = join (le-leb (microOf firstReading) u (omega (arith, first-micro))) (le-leb u (microOf lastReading) (omega (arith, last-micro)))
 
   -- its pair is one, and stands for it
   pub pair-fine : InYears u → IsPair (pairOf u)

@@ -14,7 +14,8 @@ use Rattle.answer.specs.Refusals.{refusing}
 use Rattle.leap.specs.declared.Table.{Table}
 use Rattle.leap.specs.Leap.{accepted}
 use Rattle.labels.specs.Labels.{uniform, hasSecond}
-use Rattle.labels.specs.Seconds.{microOf, first, last, readingAt}
+use Rattle.labels.specs.Seconds.{microOf, firstReading, lastReading}
+use Rattle.labels.specs.Back.{readingAt}
 use Rattle.labels.proofs.Uniform.{first-micro}
 use Rattle.stamp.specs.declared.InstantAnswer.the-variants.{At, Refused}
 use Rattle.stamp.specs.Scales.{scaleOf, knownScale, offsetsOf, instantFor}
@@ -22,7 +23,7 @@ use Rattle.stamp.specs.Back.{instantShowing}
 use Rattle.stamp.specs.Stamps.{instantResults}
 use Rattle.julian.specs.declared.JulianDate.{JulianDate}
 use Rattle.julian.specs.Fraction.{isFraction}
-use Rattle.julian.specs.Midnight.{isMidnight, inYears, dayNumber}
+use Rattle.julian.specs.Midnight.{isMidnight, midnightInYears, dayNumber}
 use Rattle.julian.specs.Dates.{microRead, readJulian}
 use Rattle.julian.specs.Promise.{ReadRefused, IsPair, Stands}
 use Rattle.julian.proofs.Years.{years}
@@ -78,7 +79,7 @@ module _ (t : Table) (k : ℕ) (p : JulianDate) where
   u = microRead p
 
   abbrev bounds : Bool
-  bounds = leb (microOf first) (microRead p) && leb (microRead p) (microOf last)
+  bounds = leb (microOf firstReading) (microRead p) && leb (microRead p) (microOf lastReading)
 
   abbrev second : Bool
   second = hasSecond (offsetsOf t (scaleOf k)) (readingAt uniform (microRead p) .label)
@@ -86,50 +87,50 @@ module _ (t : Table) (k : ℕ) (p : JulianDate) where
   abbrev x : ℤ
   x = instantFor t (scaleOf k) (readingAt uniform (microRead p))
 
-  answer-is : instantResults (readJulian t k p) .0 ≡ judged (knownScale k) (accepted t) (isMidnight (p .midnight)) (isFraction (p .fraction)) (inYears (p .midnight)) bounds second x
+  answer-is : instantResults (readJulian t k p) .0 ≡ judged (knownScale k) (accepted t) (isMidnight (p .midnight)) (isFraction (p .fraction)) (midnightInYears (p .midnight)) bounds second x
   unfolding readJulian instantShowing
   answer-is = refl
 
   -- a midnight of these years is not before their first microsecond
-  not-before : inYears (p .midnight) ≡ true → microOf first ≤ microRead p
+  not-before : midnightInYears (p .midnight) ≡ true → microOf firstReading ≤ microRead p
   unfolding microRead dayNumber
   not-before e = omega (arith, first-micro, years (p .midnight) (subst T (sym e) tt) .range)
 
   -- so the second test of the years asks for their last alone
-  one-end : (inYears (p .midnight) && bounds) ≡ (inYears (p .midnight) && leb u (microOf last))
-  one-end = go (inYears (p .midnight)) (leb u (microOf last)) (λ e. le-leb (microOf first) u (not-before e))
+  one-end : (midnightInYears (p .midnight) && bounds) ≡ (midnightInYears (p .midnight) && leb u (microOf lastReading))
+  one-end = go (midnightInYears (p .midnight)) (leb u (microOf lastReading)) (λ e. le-leb (microOf firstReading) u (not-before e))
     where
-      go : (a l : Bool) → (a ≡ true → leb (microOf first) u ≡ true) → (a && (leb (microOf first) u && l)) ≡ (a && l)
+      go : (a l : Bool) → (a ≡ true → leb (microOf firstReading) u ≡ true) → (a && (leb (microOf firstReading) u && l)) ≡ (a && l)
       go true l h = rw (h refl)
       go false l h = refl
 
   pub number-given : ReadRefused t k p 13 → (knownScale k ≡ true) × (accepted t ≡ true) × ((isMidnight (p .midnight) && isFraction (p .fraction)) ≡ false)
-  number-given e = thirteen (knownScale k) (accepted t) (isMidnight (p .midnight)) (isFraction (p .fraction)) (inYears (p .midnight)) bounds second x (sym answer-is ∙ e)
+  number-given e = thirteen (knownScale k) (accepted t) (isMidnight (p .midnight)) (isFraction (p .fraction)) (midnightInYears (p .midnight)) bounds second x (sym answer-is ∙ e)
 
   pub number-from : knownScale k ≡ true → accepted t ≡ true → (isMidnight (p .midnight) && isFraction (p .fraction)) ≡ false → ReadRefused t k p 13
-  number-from a b c = answer-is ∙ thirteen-from (knownScale k) (accepted t) (isMidnight (p .midnight)) (isFraction (p .fraction)) (inYears (p .midnight)) bounds second x a b c
+  number-from a b c = answer-is ∙ thirteen-from (knownScale k) (accepted t) (isMidnight (p .midnight)) (isFraction (p .fraction)) (midnightInYears (p .midnight)) bounds second x a b c
 
-  pub range-given : ReadRefused t k p 7 → (knownScale k ≡ true) × (accepted t ≡ true) × ((isMidnight (p .midnight) && isFraction (p .fraction)) ≡ true) × ((inYears (p .midnight) && leb (microRead p) (microOf last)) ≡ false)
+  pub range-given : ReadRefused t k p 7 → (knownScale k ≡ true) × (accepted t ≡ true) × ((isMidnight (p .midnight) && isFraction (p .fraction)) ≡ true) × ((midnightInYears (p .midnight) && leb (microRead p) (microOf lastReading)) ≡ false)
   range-given e =
-      let g = seven (knownScale k) (accepted t) (isMidnight (p .midnight)) (isFraction (p .fraction)) (inYears (p .midnight)) bounds second x (sym answer-is ∙ e) in
+      let g = seven (knownScale k) (accepted t) (isMidnight (p .midnight)) (isFraction (p .fraction)) (midnightInYears (p .midnight)) bounds second x (sym answer-is ∙ e) in
       (g .0, g .1, g .2, sym one-end ∙ g .3)
 
-  pub range-from : knownScale k ≡ true → accepted t ≡ true → (isMidnight (p .midnight) && isFraction (p .fraction)) ≡ true → (inYears (p .midnight) && leb (microRead p) (microOf last)) ≡ false → ReadRefused t k p 7
-  range-from a b c d = answer-is ∙ seven-from (knownScale k) (accepted t) (isMidnight (p .midnight)) (isFraction (p .fraction)) (inYears (p .midnight)) bounds second x a b c (one-end ∙ d)
+  pub range-from : knownScale k ≡ true → accepted t ≡ true → (isMidnight (p .midnight) && isFraction (p .fraction)) ≡ true → (midnightInYears (p .midnight) && leb (microRead p) (microOf lastReading)) ≡ false → ReadRefused t k p 7
+  range-from a b c d = answer-is ∙ seven-from (knownScale k) (accepted t) (isMidnight (p .midnight)) (isFraction (p .fraction)) (midnightInYears (p .midnight)) bounds second x a b c (one-end ∙ d)
 
-  pub second-given : ReadRefused t k p 6 → (knownScale k ≡ true) × (accepted t ≡ true) × IsPair p × (microRead p ≤ microOf last) × ((y : ℤ) → Stands t k p y → ⊥)
+  pub second-given : ReadRefused t k p 6 → (knownScale k ≡ true) × (accepted t ≡ true) × IsPair p × (microRead p ≤ microOf lastReading) × ((y : ℤ) → Stands t k p y → ⊥)
   second-given e =
-      let g = six (knownScale k) (accepted t) (isMidnight (p .midnight)) (isFraction (p .fraction)) (inYears (p .midnight)) bounds second x (sym answer-is ∙ e) in
+      let g = six (knownScale k) (accepted t) (isMidnight (p .midnight)) (isFraction (p .fraction)) (midnightInYears (p .midnight)) bounds second x (sym answer-is ∙ e) in
       let i : IsPair p = record { is-midnight = g .2; is-fraction = g .3; in-years = g .4 } in (
         g .0,
         g .1,
         i,
-        leb-true u (microOf last) (and-r (leb (microOf first) u) (leb u (microOf last)) (g .5)),
+        leb-true u (microOf lastReading) (and-r (leb (microOf firstReading) u) (leb u (microOf lastReading)) (g .5)),
         λ y s. let z : _≡_ {A = ℕ} 0 6 = sym (ap (λ a. instantResults a .0) (read-from t k y (s .reading) (s .reads) (s .not-added) p (g .0) (g .1) i (s .shows))) ∙ e in omega arith,
       )
 
-  pub second-from : knownScale k ≡ true → accepted t ≡ true → IsPair p → microRead p ≤ microOf last → ((y : ℤ) → Stands t k p y → ⊥) → ReadRefused t k p 6
+  pub second-from : knownScale k ≡ true → accepted t ≡ true → IsPair p → microRead p ≤ microOf lastReading → ((y : ℤ) → Stands t k p y → ⊥) → ReadRefused t k p 6
   second-from a b i l n =
-      let f : bounds ≡ true = join (le-leb (microOf first) u (not-before (i .in-years))) (le-leb u (microOf last) l) in
+      let f : bounds ≡ true = join (le-leb (microOf firstReading) u (not-before (i .in-years))) (le-leb u (microOf lastReading) l) in
       let none : second ≡ false = by-test second (λ e. absurd (n x (stands-at t k p (years-to u f) e))) (λ e. e) in
       answer-is ∙ rw (a, b, i .is-midnight, i .is-fraction, i .in-years, f, none)

@@ -18,7 +18,7 @@ use Rattle.julian.specs.declared.JulianDate.{JulianDate}
 use Rattle.julian.specs.declared.JulianAnswer.{JulianAnswer}
 use Rattle.julian.specs.declared.JulianAnswer.the-variants.{Dated, Refused}
 use Rattle.julian.specs.Fraction.{day, fractionOf, isFraction, microsOf}
-use Rattle.julian.specs.Midnight.{midnightOf, isMidnight, inYears, dayNumber}
+use Rattle.julian.specs.Midnight.{midnightOf, isMidnight, midnightInYears, dayNumber}
 
 -- ---- written
 
@@ -39,7 +39,7 @@ julianResults (Refused why) = (number why, record { midnight = fin false 0 (pos 
 
 -- what is asked of the pair itself, in this order
 abbrev pub pairTests : JulianDate → List (Bool × Refusal)
-pairTests p = (isMidnight (p .midnight), NUMBER) ∷ (isFraction (p .fraction), NUMBER) ∷ (inYears (p .midnight), RANGE) ∷ []
+pairTests p = (isMidnight (p .midnight), NUMBER) ∷ (isFraction (p .fraction), NUMBER) ∷ (midnightInYears (p .midnight), RANGE) ∷ []
 
 -- the microsecond of a pair; a fraction that rounds to a whole day is the next midnight
 unfoldable pub microRead : JulianDate → ℕ

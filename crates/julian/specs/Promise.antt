@@ -12,14 +12,14 @@ use lib.Ieee.Exact.{HasValue}
 use Rattle.leap.specs.declared.Table.{Table}
 use Rattle.leap.specs.Leap.{accepted}
 use Rattle.labels.specs.declared.Reading.{Reading}
-use Rattle.labels.specs.Seconds.{microOf, last}
+use Rattle.labels.specs.Seconds.{microOf, lastReading}
 use Rattle.stamp.specs.declared.Scale.the-variants.{Utc}
 use Rattle.stamp.specs.Scales.{scaleOf}
 use Rattle.stamp.specs.Stamps.{instantResults}
 use Rattle.stamp.specs.Promise.{Reads}
 use Rattle.julian.specs.declared.JulianDate.{JulianDate}
 use Rattle.julian.specs.Fraction.{day, isFraction, Close}
-use Rattle.julian.specs.Midnight.{isMidnight, inYears}
+use Rattle.julian.specs.Midnight.{isMidnight, midnightInYears}
 use Rattle.julian.specs.Dates.{pairOf, writeJulian, julianResults, microRead, readJulian}
 
 -- `write_julian` gives the pair p for the instant x on scale number k, and `read_julian` the instant x for p
@@ -43,7 +43,7 @@ pub record Near (p : JulianDate) (u : ℕ) : Type 0 where
 pub record IsPair (p : JulianDate) : Type 0 where
   pub is-midnight : isMidnight (p .midnight) ≡ true
   pub is-fraction : isFraction (p .fraction) ≡ true
-  pub in-years : inYears (p .midnight) ≡ true
+  pub in-years : midnightInYears (p .midnight) ≡ true
 
 -- the instant x is that of a reading, not in an added second, that shows the pair's microsecond
 pub record Stands (t : Table) (k : ℕ) (p : JulianDate) (x : ℤ) : Type 0 where
@@ -68,9 +68,9 @@ pub record Pairs (t : Table) : Type 0 where
   -- NUMBER, 13: the midnight is not a whole number and a half, or the fraction not at least 0 and below 1
   pub read-number : (k : ℕ) (p : JulianDate) → ReadRefused t k p 13 ↔ ((k ≤ 3) × (accepted t ≡ true) × ((isMidnight (p .midnight) && isFraction (p .fraction)) ≡ false))
   -- RANGE, 7: the midnight is not of 1972 to 9999, or what is rounded is past their last microsecond
-  pub read-range : (k : ℕ) (p : JulianDate) → ReadRefused t k p 7 ↔ ((k ≤ 3) × (accepted t ≡ true) × ((isMidnight (p .midnight) && isFraction (p .fraction)) ≡ true) × ((inYears (p .midnight) && leb (microRead p) (microOf last)) ≡ false))
+  pub read-range : (k : ℕ) (p : JulianDate) → ReadRefused t k p 7 ↔ ((k ≤ 3) × (accepted t ≡ true) × ((isMidnight (p .midnight) && isFraction (p .fraction)) ≡ true) × ((midnightInYears (p .midnight) && leb (microRead p) (microOf lastReading)) ≡ false))
   -- NOSECOND, 6: it is in these years, and no reading shows it
-  pub read-no-second : (k : ℕ) (p : JulianDate) → ReadRefused t k p 6 ↔ ((k ≤ 3) × (accepted t ≡ true) × IsPair p × (microRead p ≤ microOf last) × ((x : ℤ) → Stands t k p x → ⊥))
+  pub read-no-second : (k : ℕ) (p : JulianDate) → ReadRefused t k p 6 ↔ ((k ≤ 3) × (accepted t ≡ true) × IsPair p × (microRead p ≤ microOf lastReading) × ((x : ℤ) → Stands t k p x → ⊥))
   -- minus zero is read as zero
   pub minus-zero : (k : ℕ) (m : Float) → readJulian t k (record { midnight = m; fraction = fin true 0 (pos 0) }) ≡ readJulian t k (record { midnight = m; fraction = fin false 0 (pos 0) })
   -- on the scales 1 to 3 every instant comes back exactly, and on UTC every one outside added seconds

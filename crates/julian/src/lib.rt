@@ -5,7 +5,7 @@ ghost use Prim.Native.Nat.{_+_, _/_, _%_, _^_, _≤_};
 ghost use lib.Dec.{T};
 ghost use Rattle.leap.specs.Leap.{tabled};
 ghost use Rattle.julian.specs.Fraction.{day, isFraction, microsOf};
-ghost use Rattle.julian.specs.Midnight.{isMidnight, inYears, dayNumber};
+ghost use Rattle.julian.specs.Midnight.{isMidnight, midnightInYears, dayNumber};
 ghost use Rattle.julian.specs.Dates.{pairOf, writeJulian, readJulian};
 ghost use Rattle.julian.specs.Parts.{readIn};
 use answer::Refusal;
@@ -47,7 +47,7 @@ pub fn write_julian(t: Table, instant: i64, scale: u32) -> JulianAnswer
     ensures { λ a. ⌜ a ≡ writeJulian t instant scale ⌝ }
 {
     match stamp::shown_of(t.count, &t.months, &t.offsets, instant, scale) {
-        ShownAnswer::Shows(u) => JulianAnswer::Dated(pair_of(u)),
+        ShownAnswer::Shown(u) => JulianAnswer::Dated(pair_of(u)),
         ShownAnswer::Refused(why) => JulianAnswer::Refused(why),
     }
 }
@@ -101,7 +101,7 @@ fn is_fraction(x: f64) -> bool
 
 // From 1972-01-01 to 9999-12-31.
 fn in_years(x: f64) -> bool
-    ensures { λ r. ⌜ r ≡ inYears x ⌝ }
+    ensures { λ r. ⌜ r ≡ midnightInYears x ⌝ }
 {
     if 2441317.5 <= x {
         return x <= 5373483.5;
@@ -111,7 +111,7 @@ fn in_years(x: f64) -> bool
 
 // Counted from 1 January of year 0; the last of 9999 is day 3,652,424.
 fn day_number(x: f64) -> u64
-    requires { ⌜ T (inYears x) ⌝ }
+    requires { ⌜ T (midnightInYears x) ⌝ }
     ensures { λ r. ⌜ (r ≡ dayNumber x) × (r ≤ 3652424) ⌝ }
 {
     std::num::truncating_f64_to_u64(x) - YEAR_0

@@ -14,7 +14,8 @@ use Rattle.months.specs.Months.{daysBefore, monthLength}
 use Rattle.months.proofs.Laws.{days-next, length-least}
 use Rattle.labels.specs.declared.Label.{Label}
 use Rattle.labels.specs.Labels.{Offsets, uniform, label, lastMinute, monthOf, minuteIn, minuteLength}
-use Rattle.labels.specs.Seconds.{minuteOf, dayOf, inDay, since, placeIn, labelOf, secondOf}
+use Rattle.labels.specs.Seconds.{secondOf}
+use Rattle.labels.specs.Back.{minuteOf, dayOf, inDay, since, placeIn, labelOf}
 use Rattle.laws.proofs.Offsets.{Steps}
 use Rattle.labels.proofs.Turn.{turn, minute-range}
 use Rattle.labels.proofs.Falls.{In, since-is}

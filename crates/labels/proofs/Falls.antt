@@ -16,7 +16,8 @@ use Rattle.calendar.specs.Days.{monthOfDay}
 use Rattle.months.proofs.Laws.{days-next, length-least}
 use Rattle.calendar.proofs.Days.{in-month}
 use Rattle.labels.specs.Labels.{Offsets}
-use Rattle.labels.specs.Seconds.{firstMonth, endMonth, begins, monthAt, since}
+use Rattle.labels.specs.Seconds.{firstMonth, endMonth}
+use Rattle.labels.specs.Back.{begins, monthAt, since}
 use Rattle.laws.proofs.Offsets.{Steps}
 
 -- second s is not before month m, or before it

@@ -11,7 +11,8 @@ use Rattle.months.specs.Months.{daysBefore}
 use Rattle.months.proofs.Laws.{days-1972, days-most, days-next, length-most}
 use Rattle.calendar.proofs.Days.{in-month}
 use Rattle.labels.specs.Labels.{Offsets}
-use Rattle.labels.specs.Seconds.{firstMonth, lastMonth, endMonth, begins, since, monthAt}
+use Rattle.labels.specs.Seconds.{firstMonth, lastMonth, endMonth}
+use Rattle.labels.specs.Back.{begins, since, monthAt}
 use Rattle.laws.proofs.Offsets.{Steps}
 use Rattle.labels.proofs.Falls.{In, Begun, Covered, begun-to, before-to, since-is, before-later, month-at, guess, guess-begun, guess-before}
 

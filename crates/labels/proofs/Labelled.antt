@@ -10,7 +10,8 @@ use Rattle.months.specs.Months.{daysBefore}
 use Rattle.months.proofs.Laws.{days-1972, days-mono, days-next, days-most, length-most}
 use Rattle.labels.specs.declared.Label.{Label}
 use Rattle.labels.specs.Labels.{Offsets, monthOf}
-use Rattle.labels.specs.Seconds.{firstMonth, lastMonth, endMonth, placeIn, placeAt, labelOf, labelAt, monthAt, secondOf}
+use Rattle.labels.specs.Seconds.{firstMonth, lastMonth, endMonth, secondOf}
+use Rattle.labels.specs.Back.{placeIn, placeAt, labelOf, labelAt, monthAt}
 use Rattle.labels.proofs.Falls.{In, Covered, since-is, before-later, month-at}
 use Rattle.labels.proofs.Exists.{Exists, label-exists, label-second, label-month, second-falls, label-back}
 use Rattle.labels.proofs.Order.{Stands}

@@ -14,7 +14,8 @@ use Rattle.months.specs.Months.{monthLength}
 use Rattle.months.proofs.Laws.{length-least}
 use Rattle.labels.specs.declared.Label.{Label}
 use Rattle.labels.specs.Labels.{Offsets, label, whole, lastMinute, monthOf, minuteLength, realYear, realMonth, realDay, realClock, hasSecond}
-use Rattle.labels.specs.Seconds.{timeOfDay, minuteOf, firstMonth, lastMonth}
+use Rattle.labels.specs.Seconds.{timeOfDay, firstMonth, lastMonth}
+use Rattle.labels.specs.Back.{minuteOf}
 use Rattle.labels.specs.Promise.{hasLabel, date, realDate, LastDay, atEnd, HasSeconds, Days, Higher, Lower, DaysByOffsets}
 use Rattle.labels.proofs.Facts.{year-to, month-to, day-to}
 use Rattle.labels.proofs.Exists.{minute-is, same-label}

@@ -13,17 +13,18 @@ use Rattle.labels.specs.declared.Label.{Label}
 use Rattle.labels.specs.declared.Reading.{Reading}
 use Rattle.labels.specs.declared.Place.{Place}
 use Rattle.labels.specs.Labels.{Offsets, uniform, lastMinute, inLastMinute, monthOf, minuteIn, minuteLength}
-use Rattle.labels.specs.Seconds.{secondOf, microOf, first, last, placeIn, placeAt, lastMonth, monthAt, labelAt, readingAt}
+use Rattle.labels.specs.Seconds.{secondOf, microOf, firstReading, lastReading, lastMonth}
+use Rattle.labels.specs.Back.{placeIn, placeAt, monthAt, labelAt, readingAt}
 use Rattle.labels.proofs.Falls.{In, Covered, since-is}
 use Rattle.labels.proofs.Exists.{Exists}
 use Rattle.labels.proofs.Guess.{month-is}
 use Rattle.labels.proofs.Years.{days-end, first-second, last-second}
 use Rattle.labels.proofs.Labelled.{At, at-label, at-covered, label-at, label-month-at}
 
-pub first-micro : microOf first ≡ 62230291200000000
+pub first-micro : microOf firstReading ≡ 62230291200000000
 first-micro = omega (arith, first-second)
 
-pub last-micro : microOf last ≡ 315569519999999999
+pub last-micro : microOf lastReading ≡ 315569519999999999
 last-micro = omega (arith, last-second)
 
 -- ---- a microsecond from 1972 to 9999

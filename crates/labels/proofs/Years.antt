@@ -14,7 +14,7 @@ use Rattle.months.specs.Months.{leapYear, monthLength, daysBefore}
 use Rattle.months.proofs.Laws.{days-split, days-next, days-1972}
 use Rattle.labels.specs.declared.Reading.{Reading}
 use Rattle.labels.specs.Labels.{Offsets, monthOf}
-use Rattle.labels.specs.Seconds.{secondOf, microOf, axisAt, axisOf, firstMonth, lastMonth, endMonth, first, last, inYears}
+use Rattle.labels.specs.Seconds.{secondOf, microOf, axisAt, axisOf, firstMonth, lastMonth, endMonth, firstReading, lastReading, inYears}
 use Rattle.labels.proofs.Falls.{Covered}
 use Rattle.labels.proofs.Order.{Stands}
 
@@ -42,11 +42,11 @@ days-last = omega (arith, days-split lastMonth, days-4799)
 pub days-end : daysBefore endMonth ≡ 3652425
 days-end = omega (arith, days-next lastMonth, days-last, length-4799)
 
-pub first-second : secondOf (first .label) ≡ 62230291200
+pub first-second : secondOf (firstReading .label) ≡ 62230291200
 unfolding secondOf
 first-second = omega (arith, days-1972)
 
-pub last-second : secondOf (last .label) ≡ 315569519999
+pub last-second : secondOf (lastReading .label) ≡ 315569519999
 unfolding secondOf
 last-second = omega (arith, days-last)
 
@@ -62,16 +62,16 @@ module _ (o : Offsets) (st : Steps o) (a : ℤ) where
   pub years-to : inYears o a ≡ true → Between
   unfolding inYears
   years-to e =
-      let p = leZ-true (axisOf o first) a (and-l _ (leZ a (axisOf o last)) e) in
-      let q = leZ-true a (axisOf o last) (and-r (leZ (axisOf o first) a) _ e) in
-      omega (arith, first-second, last-second, axis-is (microOf first) (o firstMonth), axis-is (microOf last) (o lastMonth))
+      let p = leZ-true (axisOf o firstReading) a (and-l _ (leZ a (axisOf o lastReading)) e) in
+      let q = leZ-true a (axisOf o lastReading) (and-r (leZ (axisOf o firstReading) a) _ e) in
+      omega (arith, first-second, last-second, axis-is (microOf firstReading) (o firstMonth), axis-is (microOf lastReading) (o lastMonth))
 
   pub years-from : Between → inYears o a ≡ true
   unfolding inYears
   years-from b =
       join
-      (le-leZ (axisOf o first) a (omega (arith, first-second, axis-is (microOf first) (o firstMonth))))
-      (le-leZ a (axisOf o last) (omega (arith, last-second, axis-is (microOf last) (o lastMonth))))
+      (le-leZ (axisOf o firstReading) a (omega (arith, first-second, axis-is (microOf firstReading) (o firstMonth))))
+      (le-leZ a (axisOf o lastReading) (omega (arith, last-second, axis-is (microOf lastReading) (o lastMonth))))
 
 module _ (o : Offsets) (st : Steps o) (c : ℕ) where
   pub covered-to : inYears o (pos c) ≡ true → Covered o (c / 1000000)

@@ -1,3 +1,4 @@
 pub mod Labels
 pub mod Seconds
+pub mod Back
 pub mod Promise

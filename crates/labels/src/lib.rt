@@ -3,7 +3,7 @@
 ghost use mathlib.Core.Path.{_≡_};
 ghost use Prim.Native.Nat.{_-_, _/_, _≤_, min};
 ghost use Rattle.labels.specs.Labels.{realYear, realMonth, dayIn, realClock, judged, lastMinute, inLastMinute, minuteIn};
-ghost use Rattle.labels.specs.Seconds.{minuteOf, inDay, labelOf};
+ghost use Rattle.labels.specs.Back.{minuteOf, inDay, labelOf};
 use answer::Refusal;
 
 // A calendar label of whole seconds.

@@ -13,14 +13,14 @@ use Rattle.laws.specs.Tests.{eqZ}
 use Rattle.laws.proofs.Cases.{and-l, and-r, one-of, or-l, or-r, join, below, all-below, by-order}
 use Rattle.laws.proofs.Machine.{eqZ-true, eqZ-eq}
 use Rattle.leap.specs.declared.Table.{Table}
-use Rattle.leap.specs.Leap.{lastMonth, oneApart, laterRight, placeRight, accepted}
+use Rattle.leap.specs.Leap.{lastEntryMonth, oneApart, laterRight, placeRight, accepted}
 use Rattle.leap.specs.Entries.{Entry, firstEntry, noEntry, entry}
 use Rattle.leap.proofs.Places.{later-is, unused-is}
 
 -- entry f may come next after entry e
 pub record Later (e f : Entry) : Type 0 where
   pub rises : e .0 < f .0
-  pub early : f .0 ≤ lastMonth
+  pub early : f .0 ≤ lastEntryMonth
   pub step : (f .1 ≡ sucℤ (e .1)) ⊎ (e .1 ≡ sucℤ (f .1))
 
 pub record Accepted (t : Table) : Type 0 where
@@ -52,8 +52,8 @@ apart-from o o′ (inr q) = or-r (eqZ o′ (sucℤ o)) (eqZ-eq q)
 
 later-to : (m : ℕ) (o : ℤ) (m′ : ℕ) (o′ : ℤ) → laterRight m o m′ o′ ≡ true → Later (m, o) (m′, o′)
 later-to m o m′ o′ e =
-    let h : (leb m′ lastMonth && oneApart o o′) ≡ true = and-r (ltb m m′) _ e in
-    record { rises = search (and-l, ltb-true); early = search (and-l, leb-true); step = apart-to o o′ (and-r (leb m′ lastMonth) _ h) }
+    let h : (leb m′ lastEntryMonth && oneApart o o′) ≡ true = and-r (ltb m m′) _ e in
+    record { rises = search (and-l, ltb-true); early = search (and-l, leb-true); step = apart-to o o′ (and-r (leb m′ lastEntryMonth) _ h) }
 
 later-from : {m : ℕ} {o : ℤ} {m′ : ℕ} {o′ : ℤ} → Later (m, o) (m′, o′) → laterRight m o m′ o′ ≡ true
 later-from l = join (lt-ltb _ _ (l .rises)) (join (le-leb _ _ (l .early)) (apart-from _ _ (l .step)))

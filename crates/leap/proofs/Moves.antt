@@ -10,7 +10,7 @@ use Rattle.laws.proofs.Difference.{up, down, eq-to, suc-is}
 use Rattle.laws.proofs.Machine.{one-side}
 use Rattle.laws.proofs.Offsets.{Beside, Steps}
 use Rattle.leap.specs.declared.Table.{Table}
-use Rattle.leap.specs.Leap.{lastMonth, entryOffset, epoch, lastBegun, top, offsetAt}
+use Rattle.leap.specs.Leap.{lastEntryMonth, entryOffset, epoch, lastBegun, top, offsetAt}
 use Rattle.leap.proofs.Facts.{Accepted}
 use Rattle.leap.proofs.Begun.{begun-le}
 use Rattle.leap.proofs.Steps.{top-is, offset-is, at-entry, entry-or-rest}
@@ -29,7 +29,7 @@ module _ (t : Table) (acc : Accepted t) where
       (λ e. rw e (omega arith))
       (entry-or-rest t acc m)
 
-  pub kept : (m : ℕ) → epoch + lastMonth ≤ m → offsetAt t m ≡ entryOffset t (t .count - 1)
+  pub kept : (m : ℕ) → epoch + lastEntryMonth ≤ m → offsetAt t m ≡ entryOffset t (t .count - 1)
   kept m h =
       offset-is t acc m (t .count - 1)
       (record {
@@ -65,4 +65,4 @@ module _ (t : Table) (acc : Accepted t) where
 
   pub steps-by-months : Steps (offsetAt t)
   steps-by-months =
-      record { by-one = near; at-rest = kept (epoch + lastMonth + 1) (omega arith) ∙ sym (kept (epoch + lastMonth) (omega arith)); low = small }
+      record { by-one = near; at-rest = kept (epoch + lastEntryMonth + 1) (omega arith) ∙ sym (kept (epoch + lastEntryMonth) (omega arith)); low = small }

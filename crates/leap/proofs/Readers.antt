@@ -6,13 +6,13 @@ use Prim.Native.Nat.{ℕ}
 use Rattle.answer.proofs.Orders.{number-some}
 use Rattle.leap.specs.declared.Table.{Table}
 use Rattle.leap.specs.Entries.{Entry, tableOf}
-use Rattle.leap.specs.Readers.{noTable, tableResults, Outcome, entered, fault, after, tableRead}
+use Rattle.leap.specs.Readers.{noTable, tableResults, Outcome, entered, fault, joined, tableRead}
 
-pub after-none : (o : Outcome) → after [] o ≡ o
+pub after-none : (o : Outcome) → joined [] o ≡ o
 after-none (entered es) = refl
 after-none (fault why at) = refl
 
-pub after-after : (es fs : List Entry) (o : Outcome) → after es (after fs o) ≡ after (es ++ fs) o
+pub after-after : (es fs : List Entry) (o : Outcome) → joined es (joined fs o) ≡ joined (es ++ fs) o
 after-after es fs (entered gs) = rw append-assoc
 after-after es fs (fault why at) = refl
 

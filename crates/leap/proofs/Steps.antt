@@ -10,7 +10,7 @@ use lib.IntN.{ℤ, sucℤ}
 use Rattle.laws.proofs.Cases.{by-order, lt-cases}
 use Rattle.laws.proofs.Difference.{eq-to, suc-is}
 use Rattle.leap.specs.declared.Table.{Table}
-use Rattle.leap.specs.Leap.{lastMonth, entryMonth, entryOffset, accepted, epoch, lastBegun, top, offsetAt}
+use Rattle.leap.specs.Leap.{lastEntryMonth, entryMonth, entryOffset, accepted, epoch, lastBegun, top, offsetAt}
 use Rattle.leap.specs.Entries.{entry}
 use Rattle.leap.specs.Steps.{EntryAfter, StepUp, StepDown, MovesWithEntries, AllMove}
 use Rattle.leap.proofs.Facts.{Later, Accepted, accepted-to}
@@ -82,7 +82,7 @@ module _ (t : Table) (acc : Accepted t) where
       )
 
   -- the months of entries after the first are February 1972 to December 9999
-  pub entry-within : (m k : ℕ) → EntryAfter t k m → (epoch < m) × (m ≤ epoch + lastMonth)
+  pub entry-within : (m k : ℕ) → EntryAfter t k m → (epoch < m) × (m ≤ epoch + lastEntryMonth)
   entry-within m k w = let a = acc .later k (w .0) in omega (arith, a .rises, a .early)
 
   -- a month has an entry, or the offset of the month before

@@ -17,8 +17,8 @@ tabled n ms os = record { count = n; months = ms; offsets = os }
 -- ---- an accepted table
 
 -- December 9999, where January 1972 is 0
-abbrev pub lastMonth : ℕ
-lastMonth = 96335
+abbrev pub lastEntryMonth : ℕ
+lastEntryMonth = 96335
 
 -- the month number of entry k, where January 1972 is 0
 abbrev pub entryMonth : Table → ℕ → ℕ
@@ -38,7 +38,7 @@ oneApart o o′ = eqZ o′ (sucℤ o) || eqZ o (sucℤ o′)
 
 -- an entry of month m′ after one of month m: months rise strictly, up to December 9999, and the offsets are one apart
 abbrev pub laterRight : ℕ → ℤ → ℕ → ℤ → Bool
-laterRight m o m′ o′ = ltb m m′ && (leb m′ lastMonth && oneApart o o′)
+laterRight m o m′ o′ = ltb m m′ && (leb m′ lastEntryMonth && oneApart o o′)
 
 -- unused places are zero
 abbrev pub unusedRight : ℕ → ℤ → Bool

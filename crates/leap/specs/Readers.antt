@@ -40,9 +40,9 @@ pub data Outcome : Type 0 where
   fault : Refusal → ℕ → Outcome
 
 -- with these entries before those that the rest holds
-abbrev pub after : List Entry → Outcome → Outcome
-after es (entered fs) = entered (es ++ fs)
-after es (fault why at) = fault why at
+abbrev pub joined : List Entry → Outcome → Outcome
+joined es (entered fs) = entered (es ++ fs)
+joined es (fault why at) = fault why at
 
 abbrev pub tableRead : Outcome → TableRead
 tableRead (entered es) = found (tableOf es)

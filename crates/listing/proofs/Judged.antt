@@ -22,7 +22,7 @@ use Rattle.stamp.specs.Promise.{stamp}
 use Rattle.clock.specs.Promise.{admits}
 use Rattle.pictures.specs.declared.Fields.{Fields}
 use Rattle.pictures.specs.declared.FieldsAnswer.{FieldsAnswer}
-use Rattle.pictures.specs.declared.FieldsAnswer.the-variants.{Shows, NoPicture}
+use Rattle.pictures.specs.declared.FieldsAnswer.the-variants.{Picture, NoPicture}
 use Rattle.pictures.specs.Reading.{readFields}
 use Rattle.text.specs.declared.TextAnswer.the-variants.{Read, Refused as NotRead}
 use Rattle.text.specs.Text.{readingOf, fieldsRead, readText}
@@ -64,7 +64,7 @@ module _ (t : Table) (line : List ℕ) {x : ℤ} {z : Stamp} where
 
   -- fields that are accepted are those of an admitted label
   fields-good : (a : FieldsAnswer) → fieldsRead t Utc a ≡ Read x z → admits t (z .reading .label) ≡ true
-  fields-good (Shows f) e =
+  fields-good (Picture f) e =
       let r = readingOf f in
       let b = was-passed NotRead (labelTests (offsetAt t) 60 r) (Read (instantFor t Utc r) (stamp Utc r)) (Read x z) not-refused e in
       let q : stamp Utc r ≡ z = cc (b .1) in

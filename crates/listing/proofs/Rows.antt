@@ -14,14 +14,14 @@ use Rattle.leap.specs.Leap.{accepted}
 use Rattle.labels.specs.declared.Label.{Label}
 use Rattle.clock.specs.declared.TickAnswer.the-variants.{Next, Refused as Ended}
 use Rattle.clock.specs.Clock.{tick, tickResults}
-use Rattle.clock.specs.Promise.{last, admits, Follows, ended}
+use Rattle.clock.specs.Promise.{lastLabel, admits, Follows, ended}
 use Rattle.clock.proofs.Promise.{all-tick}
 use Rattle.digits.specs.Bytes.{Placed}
 use Rattle.digits.proofs.Bytes.{is-placed, then-placed}
-use Rattle.listing.specs.Listing.{rowText, onward, rows}
+use Rattle.listing.specs.Listing.{rowText, rowAfter, rowsFrom}
 
 -- what a tick of an admitted label gives is admitted
-stays : (t : Table) (l l′ : Label) → ((k : Label) × ((tickResults (tick t l) ≡ (0, k)) × Follows t l k)) ⊎ ((l ≡ last) × (tickResults (tick t l) ≡ ended)) → tick t l ≡ Next l′ → admits t l′ ≡ true
+stays : (t : Table) (l l′ : Label) → ((k : Label) × ((tickResults (tick t l) ≡ (0, k)) × Follows t l k)) ⊎ ((l ≡ lastLabel) × (tickResults (tick t l) ≡ ended)) → tick t l ≡ Next l′ → admits t l′ ≡ true
 stays t l l′ (inl w) e =
     let q : w .0 ≡ l′ = ap (λ v. v .1) (sym (w .1 .0) ∙ ap tickResults e) in
     subst (λ x. admits t x ≡ true) q (w .1 .1 .is-admitted)
@@ -33,13 +33,13 @@ module _ (t : Table) (first : Label) (count from : ℕ) (start : List ℕ) where
   pub record Rowed (out : List ℕ) (l : Label) (at left : ℕ) : Type 0 where
     pub done : List ℕ
     pub stored : Placed start from done at out
-    pub whole : done ++ rows t left l ≡ rows t count first
+    pub whole : done ++ rowsFrom t left l ≡ rowsFrom t count first
     pub room : at + 42 * left ≤ length start
     pub good : accepted t ≡ true
     pub there : admits t l ≡ true
 
   abbrev Whole : ℕ → List ℕ → Type 0
-  Whole at out = Placed start from (rows t count first) at out
+  Whole at out = Placed start from (rowsFrom t count first) at out
 
   pub rowed-none : accepted t ≡ true → admits t first ≡ true → from + 42 * count ≤ length start → Rowed start first from count
   rowed-none g h r =
@@ -54,19 +54,19 @@ module _ (t : Table) (first : Label) (count from : ℕ) (start : List ℕ) where
 
   module _ (out : List ℕ) (l : Label) (at left : ℕ) (r : Rowed out l at left) where
     pub rowed-end : left ≡ 0 → Whole at out
-    unfolding rows
+    unfolding rowsFrom
     rowed-end e =
-        let w : r .done ≡ rows t count first = sym (append-nil (r .done)) ∙ rw e at (r .whole) in rw w at (r .stored)
+        let w : r .done ≡ rowsFrom t count first = sym (append-nil (r .done)) ∙ rw e at (r .whole) in rw w at (r .stored)
 
     module _ (h : 0 < left) {b : ℕ} {o : List ℕ} (p : Placed out at (rowText t l) b o) (few : b ≤ at + 42) where
       more : Placed start from (r .done ++ rowText t l) b o
       more = then-placed start from (r .done) (rowText t l) (r .stored) p
 
-      whole-is : (r .done ++ rowText t l) ++ onward (rows t (left - 1)) (tick t l) ≡ rows t count first
-      unfolding rows
+      whole-is : (r .done ++ rowText t l) ++ rowAfter (rowsFrom t (left - 1)) (tick t l) ≡ rowsFrom t count first
+      unfolding rowsFrom
       whole-is =
           let n : left ≡ suc (left - 1) = omega arith in
-          append-assoc (r .done) (rowText t l) _ ∙ subst (λ (k : ℕ). r .done ++ rows t k l ≡ rows t count first) n (r .whole)
+          append-assoc (r .done) (rowText t l) _ ∙ subst (λ (k : ℕ). r .done ++ rowsFrom t k l ≡ rowsFrom t count first) n (r .whole)
 
       -- the clock goes on
       pub rowed-more : {next : Label} → tick t l ≡ Next next → Rowed o next b (left - 1)
@@ -83,4 +83,4 @@ module _ (t : Table) (first : Label) (count from : ℕ) (start : List ℕ) where
       -- the clock ends
       pub rowed-last : {why : Refusal} → tick t l ≡ Ended why → Whole b o
       rowed-last {why} e =
-          let w : r .done ++ rowText t l ≡ rows t count first = sym (append-nil (r .done ++ rowText t l)) ∙ rw e at whole-is in rw w at more
+          let w : r .done ++ rowText t l ≡ rowsFrom t count first = sym (append-nil (r .done ++ rowText t l)) ∙ rw e at whole-is in rw w at more

@@ -88,14 +88,14 @@ unfoldable pub rowText : Table → Label → List ℕ
 rowText t l = textOf 0 0 (whole l) ++ (32 ∷ [] ++ (signedText (taiSecond t l) ++ 10 ∷ []))
 
 -- the line of the next second, or nothing after the last of 9999
-abbrev pub onward : (Label → List ℕ) → TickAnswer → List ℕ
-onward more (Next l) = more l
-onward more (Ended why) = []
+abbrev pub rowAfter : (Label → List ℕ) → TickAnswer → List ℕ
+rowAfter more (Next l) = more l
+rowAfter more (Ended why) = []
 
 -- a line for each of n seconds from a label on
-unfoldable pub rows : Table → ℕ → Label → List ℕ
-rows t zero l = []
-rows t (suc n) l = rowText t l ++ onward (rows t n) (tick t l)
+unfoldable pub rowsFrom : Table → ℕ → Label → List ℕ
+rowsFrom t zero l = []
+rowsFrom t (suc n) l = rowText t l ++ rowAfter (rowsFrom t n) (tick t l)
 
 -- ---- the first bad line decides
 
@@ -112,7 +112,7 @@ afterCount next (Count n) = next n
 afterCount next (NoCount why) = refusalText why
 
 unfoldable pub fromCount : Table → Label → List ℕ → List ℕ
-fromCount t l third = afterCount (λ n. header ++ rows t n l) (countLine third)
+fromCount t l third = afterCount (λ n. header ++ rowsFrom t n l) (countLine third)
 
 unfoldable pub fromStamp : Table → List ℕ → List ℕ → List ℕ
 fromStamp t second third = afterStamp (λ l. fromCount t l third) (stampLine t second)

@@ -14,7 +14,7 @@ ghost use Rattle.leap.specs.Leap.{accepted};
 ghost use Rattle.clock.specs.Promise.{admits};
 ghost use Rattle.lines.specs.Words.{before};
 ghost use Rattle.digits.specs.Bytes.{Placed};
-ghost use Rattle.listing.specs.Listing.{lineOf, blockLine, stampLine, countLine, refusalText, header, rowText, rows, fromCount, fromStamp, fromBlock, listed};
+ghost use Rattle.listing.specs.Listing.{lineOf, blockLine, stampLine, countLine, refusalText, header, rowText, rowsFrom, fromCount, fromStamp, fromBlock, listed};
 use answer::Refusal;
 use answer::Written;
 use clock::TickAnswer;
@@ -147,7 +147,7 @@ fn put_row(t: Table, l: Label, out: &mut [u8], at: usize) -> usize
 // Stores up to `count` of them from index `from` on.
 fn put_rows(t: Table, first: Label, count: usize, out: &mut [u8], from: usize) -> usize
     requires { ⌜ (accepted t ≡ true) × (admits t first ≡ true) × (from + 42 * count ≤ length (now out)) ⌝ }
-    ensures { λ r. ⌜ Placed (now (out .entry)) from (rows t count first) r (now (out .exit)) ⌝ }
+    ensures { λ r. ⌜ Placed (now (out .entry)) from (rowsFrom t count first) r (now (out .exit)) ⌝ }
 {
     let mut l = first;
     let mut at = from;
@@ -166,7 +166,7 @@ fn put_rows(t: Table, first: Label, count: usize, out: &mut [u8], from: usize) -
 
 fn print_rows(t: Table, first: Label, count: usize, out: &mut [u8]) -> usize
     requires { ⌜ (accepted t ≡ true) × (admits t first ≡ true) × (8 + 42 * count ≤ length (now out)) ⌝ }
-    ensures { λ r. ⌜ Placed (now (out .entry)) 0 (header ++ rows t count first) r (now (out .exit)) ⌝ }
+    ensures { λ r. ⌜ Placed (now (out .entry)) 0 (header ++ rowsFrom t count first) r (now (out .exit)) ⌝ }
 {
     let at = digits::append(out, 0, b"UTC TAI\n");
     put_rows(t, first, count, out, at)

@@ -8,7 +8,7 @@ use denote.Ref.{now}
 use Rattle.answer.specs.Buffers.{writtenResults}
 use Rattle.text.specs.Text.{writeText, writeTextAfter}
 use Rattle.mundreff.specs.Words.{tableFrom}
-use Rattle.mundreff.specs.Settles.{_&_, Lent, _becomes_, Settles, LeavesTwo, also}
+use Rattle.laws.specs.Settles.{_&_, Lent, _becomes_, Settles, LeavesTwo, also}
 use Rattle.mundreff.proofs.mundreff_write_text.Reads as write-text
 
 -- two outcomes that a contract allows are equal

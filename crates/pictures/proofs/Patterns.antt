@@ -16,7 +16,7 @@ use Rattle.laws.proofs.Branches.{and-no, holds}
 use Rattle.laws.proofs.Cases.{both, and-l, and-r, join, one-of}
 use Rattle.digits.specs.Decimals.{digitValue, allDigits}
 use Rattle.pictures.specs.Parts.{Digits, Numbers, Fills}
-use Rattle.pictures.specs.Reading.{asShown, like, filled, rightLength, hasPicture}
+use Rattle.pictures.specs.Reading.{asShown, like, inFull, rightLength, hasPicture}
 
 and-assoc : (a b c : Bool) → ((a && b) && c) ≡ (a && (b && c))
 and-assoc true b c = refl
@@ -105,7 +105,7 @@ counts-none (c ∷ cs) e (suc k) = counts-none cs (and-r (eqb (digitValue c) 0) 
 -- ---- the text in full
 
 -- as a copy of the text leaves the pattern
-pub is-filled : (cs s : List ℕ) {t : List ℕ} → t ≡ take (length s) s ++ drop (length s) cs → t ≡ filled cs s
+pub is-filled : (cs s : List ℕ) {t : List ℕ} → t ≡ take (length s) s ++ drop (length s) cs → t ≡ inFull cs s
 is-filled cs s e = e ∙ ap (λ (l : List ℕ). l ++ drop (length s) cs) (take-length s)
 
 -- how long a text with a picture is
@@ -126,11 +126,11 @@ module _ (cs : List ℕ) (n : ℕ) {s t : List ℕ} {r : Bool} (f : Fills cs n s
   pub has-it : hasPicture cs n s ≡ true
   has-it = holds (f .has) e
 
-  pub is-full : t ≡ filled cs s
+  pub is-full : t ≡ inFull cs s
   is-full = f .full has-it
 
   pub is-alike : like cs t ≡ true
   is-alike = ap (like cs) is-full ∙ and-r (rightLength n (length s)) _ has-it
 
   pub is-short : length s ≤ n + 7
-  is-short = length-most n (length s) (and-l _ (like cs (filled cs s)) has-it)
+  is-short = length-most n (length s) (and-l _ (like cs (inFull cs s)) has-it)

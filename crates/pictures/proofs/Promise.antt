@@ -14,17 +14,17 @@ use lib.Seq.{take-at, take-append-add, drop-drop}
 use Rattle.laws.proofs.Cases.{and-l, and-r, join}
 use Rattle.laws.proofs.Placed.{over-old}
 use Rattle.digits.specs.Bytes.{bytesAt}
-use Rattle.digits.specs.Decimals.{digitValue, digitsOf, spelled, number}
+use Rattle.digits.specs.Decimals.{digitValue, digitsOf, spelled, numberAt}
 use Rattle.digits.proofs.Decimals.{number-back, number-lt}
 use Rattle.digits.proofs.Months.{named-is, named-back}
 use Rattle.pictures.specs.declared.Date.{Date}
 use Rattle.pictures.specs.declared.Date.the-variants.{Numbered, OfYear, Named}
 use Rattle.pictures.specs.declared.Fields.{Fields}
 use Rattle.pictures.specs.declared.FieldsAnswer.{FieldsAnswer}
-use Rattle.pictures.specs.declared.FieldsAnswer.the-variants.{Shows, NoPicture}
+use Rattle.pictures.specs.declared.FieldsAnswer.the-variants.{Picture, NoPicture}
 use Rattle.pictures.specs.Parts.{Numbers}
 use Rattle.pictures.specs.Pictures.{dateText, clockText, fractionText, pictureText, DateFits, WellFormed}
-use Rattle.pictures.specs.Reading.{asShown, like, filled, rightLength, hasPicture, numberedPattern, ofYearPattern, namedPattern, monthIn, fieldsIn, numberedIn, ofYearIn, namedIn, orElse, readNumbered, readOfYear, readNamed, readFields}
+use Rattle.pictures.specs.Reading.{asShown, like, inFull, rightLength, hasPicture, numberedPattern, ofYearPattern, namedPattern, monthIn, fieldsIn, numberedIn, ofYearIn, namedIn, orElse, readNumbered, readOfYear, readNamed, readFields}
 use Rattle.pictures.specs.Promise.{Determined}
 use Rattle.pictures.proofs.Spelling.{digit-yes, all-bytes, number-whole, again}
 use Rattle.pictures.proofs.Fraction.{cut, fraction-filled, fraction-length, fraction-right}
@@ -56,7 +56,7 @@ text-length : (f : Fields) → length (pictureText f) ≡ before-point f + lengt
 unfolding pictureText
 text-length f = simp length-append (omega arith)
 
-filled-text : (f : Fields) (cs : List ℕ) → WellFormed f → drop (before-point f) cs ≡ fractionText 6 0 → filled cs (pictureText f) ≡ pictureText (with f 6)
+filled-text : (f : Fields) (cs : List ℕ) → WellFormed f → drop (before-point f) cs ≡ fractionText 6 0 → inFull cs (pictureText f) ≡ pictureText (with f 6)
 unfolding pictureText
 filled-text f cs w e =
     let d = dateText (f .year) (f .date) in
@@ -79,7 +79,7 @@ module _ (cs t : List ℕ) (h : like cs t ≡ true) where
   all n e = subst (λ (j : ℕ). bytesAt t 0 j ≡ t) (like-length cs t h ∙ e) (all-bytes t)
 
 clock-text : (t : List ℕ) (at : ℕ) → Numbers t at → code ":" ≡ getD t (at + 2) 0 → code ":" ≡ getD t (at + 5) 0 → code "." ≡ getD t (at + 8) 0
-    → clockText (number t at 2) (number t (at + 3) 2) (number t (at + 6) 2) ++ fractionText 6 (number t (at + 9) 6) ≡ bytesAt t at 2 ++ getD t (at + 2) 0 ∷ bytesAt t (at + 3) 2 ++ getD t (at + 5) 0 ∷ bytesAt t (at + 6) 2 ++ getD t (at + 8) 0 ∷ bytesAt t (at + 9) 6
+    → clockText (numberAt t at 2) (numberAt t (at + 3) 2) (numberAt t (at + 6) 2) ++ fractionText 6 (numberAt t (at + 9) 6) ≡ bytesAt t at 2 ++ getD t (at + 2) 0 ∷ bytesAt t (at + 3) 2 ++ getD t (at + 5) 0 ∷ bytesAt t (at + 6) 2 ++ getD t (at + 8) 0 ∷ bytesAt t (at + 9) 6
 clock-text t at n p q r =
     let h = again (bytesAt t at 2) 0 (n .hour .all) in
     let m = again (bytesAt t (at + 3) 2) 0 (n .minute .all) in
@@ -126,7 +126,7 @@ named-text t h g =
 
 -- ---- and these are well formed
 
-fits-in : (t : List ℕ) (at k : ℕ) (d : Date) → DateFits d → k ≤ 6 → number t (at + 9) 6 % 10 ^ (6 - k) ≡ 0 → WellFormed (fieldsIn t at k d)
+fits-in : (t : List ℕ) (at k : ℕ) (d : Date) → DateFits d → k ≤ 6 → numberAt t (at + 9) 6 % 10 ^ (6 - k) ≡ 0 → WellFormed (fieldsIn t at k d)
 fits-in t at k d e l z =
     record {
       year = number-lt t 0 4;
@@ -141,44 +141,44 @@ fits-in t at k d e l z =
 
 module _ (cs s : List ℕ) (n : ℕ) (h : hasPicture cs n s ≡ true) where
   right : rightLength n (length s) ≡ true
-  right = and-l _ (like cs (filled cs s)) h
+  right = and-l _ (like cs (inFull cs s)) h
 
-  alike : like cs (filled cs s) ≡ true
+  alike : like cs (inFull cs s) ≡ true
   alike = and-r (rightLength n (length s)) _ h
 
   few : length s - (n + 1) ≤ 6
   few = ⊎-elim (λ q. omega arith) (λ q. omega arith) (lengths n (length s) right)
 
   -- the digits that are not shown are the pattern's zeros
-  rest-zero : countless cs ≡ true → number (filled cs s) (n + 1) 6 % 10 ^ (6 - (length s - (n + 1))) ≡ 0
+  rest-zero : countless cs ≡ true → numberAt (inFull cs s) (n + 1) 6 % 10 ^ (6 - (length s - (n + 1))) ≡ 0
   rest-zero e =
       let k = length s - (n + 1) in
       let six : k + (6 - k) ≡ 6 = omega (arith, few) in
-      subst (λ (w : ℕ). number (filled cs s) (n + 1) w % 10 ^ (6 - k) ≡ 0) six
-      (number-whole (filled cs s) (n + 1) k (6 - k) (λ x l. ap digitValue (over-old s cs x 0 (omega arith)) ∙ counts-none cs e x))
+      subst (λ (w : ℕ). numberAt (inFull cs s) (n + 1) w % 10 ^ (6 - k) ≡ 0) six
+      (number-whole (inFull cs s) (n + 1) k (6 - k) (λ x l. ap digitValue (over-old s cs x 0 (omega arith)) ∙ counts-none cs e x))
 
-  its-text : (f : Fields) → before-point f ≡ n → filled cs s ≡ pictureText (with f 6) → s ≡ pictureText (with f (length s - (n + 1)))
+  its-text : (f : Fields) → before-point f ≡ n → inFull cs s ≡ pictureText (with f 6) → s ≡ pictureText (with f (length s - (n + 1)))
   its-text f e q = sym (take-at s (drop (length s) cs) (length s) refl) ∙ ap (take (length s)) q ∙ cut-text f n (length s) e right
 
 numbered-shown : (s : List ℕ) → hasPicture numberedPattern 19 s ≡ true
-    → let f = numberedIn (filled numberedPattern s) (length s - 20) in WellFormed f × (s ≡ pictureText f)
+    → let f = numberedIn (inFull numberedPattern s) (length s - 20) in WellFormed f × (s ≡ pictureText f)
 unfolding digitValue
 numbered-shown s h =
-    let t = filled numberedPattern s in
+    let t = inFull numberedPattern s in
     (fits-in t 11 (length s - 20) _ (number-lt t 5 2, number-lt t 8 2) (few numberedPattern s 19 h) (rest-zero numberedPattern s 19 h refl), its-text numberedPattern s 19 h (numberedIn t 6) refl (numbered-text t (alike numberedPattern s 19 h)))
 
 of-year-shown : (s : List ℕ) → hasPicture ofYearPattern 17 s ≡ true
-    → let f = ofYearIn (filled ofYearPattern s) (length s - 18) in WellFormed f × (s ≡ pictureText f)
+    → let f = ofYearIn (inFull ofYearPattern s) (length s - 18) in WellFormed f × (s ≡ pictureText f)
 unfolding digitValue
 of-year-shown s h =
-    let t = filled ofYearPattern s in
+    let t = inFull ofYearPattern s in
     (fits-in t 9 (length s - 18) _ (number-lt t 5 3) (few ofYearPattern s 17 h) (rest-zero ofYearPattern s 17 h refl), its-text ofYearPattern s 17 h (ofYearIn t 6) refl (of-year-text t (alike ofYearPattern s 17 h)))
 
-named-shown : (s : List ℕ) → hasPicture namedPattern 20 s ≡ true → 1 ≤ monthIn (filled namedPattern s)
-    → let f = namedIn (filled namedPattern s) (length s - 21) in WellFormed f × (s ≡ pictureText f)
+named-shown : (s : List ℕ) → hasPicture namedPattern 20 s ≡ true → 1 ≤ monthIn (inFull namedPattern s)
+    → let f = namedIn (inFull namedPattern s) (length s - 21) in WellFormed f × (s ≡ pictureText f)
 unfolding digitValue
 named-shown s h g =
-    let t = filled namedPattern s in
+    let t = inFull namedPattern s in
     (fits-in t 12 (length s - 21) _ (g, named-is (bytesAt t 5 3) g .0, number-lt t 9 2) (few namedPattern s 20 h) (rest-zero namedPattern s 20 h refl), its-text namedPattern s 20 h (namedIn t 6) refl (named-text t (alike namedPattern s 20 h) g))
 
 -- ---- the text of well-formed fields is read as these fields
@@ -233,7 +233,7 @@ module _ (y h m s k u : ℕ) where
 
 -- how the text of fields is judged by a pattern whose fraction is its own
 module _ (f : Fields) (w : WellFormed f) (cs : List ℕ) (n : ℕ) (e : before-point f ≡ n) (z : drop n cs ≡ fractionText 6 0) where
-  fills : filled cs (pictureText f) ≡ pictureText (with f 6)
+  fills : inFull cs (pictureText f) ≡ pictureText (with f 6)
   fills = filled-text f cs w (ap (λ (j : ℕ). drop j cs) e ∙ z)
 
   size : length (pictureText f) ≡ n + length (fractionText (f .digits) (f .micro))
@@ -246,53 +246,53 @@ module _ (f : Fields) (w : WellFormed f) (cs : List ℕ) (n : ℕ) (e : before-p
   digits-there = omega (arith, size, fraction-length (f .digits) (f .micro) (w .digits))
 
 -- a text that differs from a pattern at a place does not have its picture
-not-has : (cs s : List ℕ) (n k : ℕ) → T (ltb k (length cs)) → asShown (getD cs k 0) (getD (filled cs s) k 0) ≡ false → hasPicture cs n s ≡ false
-not-has cs s n k l e = rw (unlike cs (filled cs s) k (lit< l) e) (and-false (rightLength n (length s)))
+not-has : (cs s : List ℕ) (n k : ℕ) → T (ltb k (length cs)) → asShown (getD cs k 0) (getD (inFull cs s) k 0) ≡ false → hasPicture cs n s ≡ false
+not-has cs s n k l e = rw (unlike cs (inFull cs s) k (lit< l) e) (and-false (rightLength n (length s)))
 
-read-back : (y h m s k u : ℕ) (d : Date) → let f = of y h m s k u d in WellFormed f → readFields (pictureText f) ≡ Shows f
+read-back : (y h m s k u : ℕ) (d : Date) → let f = of y h m s k u d in WellFormed f → readFields (pictureText f) ≡ Picture f
 unfolding readNumbered readOfYear readNamed pictureText
 read-back y h m s k u (Numbered a b) w =
     let f = of y h m s k u (Numbered a b) in
     let c = numberedPattern in
-    rw (has f w c 19 refl refl (numbered-like y h m s k u a b)) (ap Shows (ap₂ numberedIn (fills f w c 19 refl refl) (digits-there f w c 19 refl refl) ∙ numbered-back y h m s k u a b w))
+    rw (has f w c 19 refl refl (numbered-like y h m s k u a b)) (ap Picture (ap₂ numberedIn (fills f w c 19 refl refl) (digits-there f w c 19 refl refl) ∙ numbered-back y h m s k u a b w))
 read-back y h m s k u (OfYear b) w =
     let f = of y h m s k u (OfYear b) in
     let c = ofYearPattern in
     rw (not-has numberedPattern (pictureText f) 19 7 tt (ne-eqb 45 (48 + b / 1 % 10) (λ e. omega arith)), has f w c 17 refl refl (of-year-like y h m s k u b))
-    (ap Shows (ap₂ ofYearIn (fills f w c 17 refl refl) (digits-there f w c 17 refl refl) ∙ of-year-back y h m s k u b w))
+    (ap Picture (ap₂ ofYearIn (fills f w c 17 refl refl) (digits-there f w c 17 refl refl) ∙ of-year-back y h m s k u b w))
 read-back y h m s k u (Named a b) w =
     let f = of y h m s k u (Named a b) in
     let c = namedPattern in
-    let month : leb 1 (monthIn (filled c (pictureText f))) ≡ true = le-leb 1 (monthIn (filled c (pictureText f))) (omega (arith, ap monthIn (fills f w c 20 refl refl), month-there y h m s k u a b w, w .date .0)) in
+    let month : leb 1 (monthIn (inFull c (pictureText f))) ≡ true = le-leb 1 (monthIn (inFull c (pictureText f))) (omega (arith, ap monthIn (fills f w c 20 refl refl), month-there y h m s k u a b w, w .date .0)) in
     rw (not-has numberedPattern (pictureText f) 19 4 tt refl, not-has ofYearPattern (pictureText f) 17 4 tt refl, has f w c 20 refl refl (named-like y h m s k u a b), month)
-    (ap Shows (ap₂ namedIn (fills f w c 20 refl refl) (digits-there f w c 20 refl refl) ∙ named-again y h m s k u a b w))
+    (ap Picture (ap₂ namedIn (fills f w c 20 refl refl) (digits-there f w c 20 refl refl) ∙ named-again y h m s k u a b w))
 
-pub back : (f : Fields) → WellFormed f → readFields (pictureText f) ≡ Shows f
+pub back : (f : Fields) → WellFormed f → readFields (pictureText f) ≡ Picture f
 back f w = read-back (f .year) (f .hour) (f .minute) (f .second) (f .digits) (f .micro) (f .date) w
 
 -- ---- all of it
 
 -- what one picture's reader answers is right where it is right under its test
-under : (P : Fields → Type 0) (b : Bool) (g f : Fields) → (b ≡ true → P g) → cond b (Shows g) NoPicture ≡ Shows f → P f
+under : (P : Fields → Type 0) (b : Bool) (g f : Fields) → (b ≡ true → P g) → cond b (Picture g) NoPicture ≡ Picture f → P f
 under P true g f h e = let same : g ≡ f = cc in subst P same (h refl)
 under P false g f h e = let z : _≡_ {A = ℕ} 0 1 = cc in absurd (omega arith)
 
-first : (P : Fields → Type 0) (a b : FieldsAnswer) (f : Fields) → (a ≡ Shows f → P f) → (b ≡ Shows f → P f) → orElse a b ≡ Shows f → P f
-first P (Shows g) b f p q e = p e
+first : (P : Fields → Type 0) (a b : FieldsAnswer) (f : Fields) → (a ≡ Picture f → P f) → (b ≡ Picture f → P f) → orElse a b ≡ Picture f → P f
+first P (Picture g) b f p q e = p e
 first P NoPicture b f p q e = q e
 
 abbrev Is : List ℕ → Fields → Type 0
 Is s f = WellFormed f × (s ≡ pictureText f)
 
-pub shown : (s : List ℕ) (f : Fields) → readFields s ≡ Shows f → WellFormed f × (s ≡ pictureText f)
+pub shown : (s : List ℕ) (f : Fields) → readFields s ≡ Picture f → WellFormed f × (s ≡ pictureText f)
 unfolding readNumbered readOfYear readNamed
 shown s f =
     first (Is s) (readNumbered s) (orElse (readOfYear s) (readNamed s)) f
     (under (Is s) (hasPicture numberedPattern 19 s) _ f (λ h. numbered-shown s h))
     (first (Is s) (readOfYear s) (readNamed s) f
     (under (Is s) (hasPicture ofYearPattern 17 s) _ f (λ h. of-year-shown s h))
-    (under (Is s) (hasPicture namedPattern 20 s && leb 1 (monthIn (filled namedPattern s))) _ f
-    (λ h. named-shown s (and-l _ (leb 1 (monthIn (filled namedPattern s))) h) (leb-true 1 _ (and-r (hasPicture namedPattern 20 s) _ h)))))
+    (under (Is s) (hasPicture namedPattern 20 s && leb 1 (monthIn (inFull namedPattern s))) _ f
+    (λ h. named-shown s (and-l _ (leb 1 (monthIn (inFull namedPattern s))) h) (leb-true 1 _ (and-r (hasPicture namedPattern 20 s) _ h)))))
 
 pub determined : Determined
-determined f g v w e = let h : Shows f ≡ Shows g = sym (back f v) ∙ ap readFields e ∙ back g w in cc
+determined f g v w e = let h : Picture f ≡ Picture g = sym (back f v) ∙ ap readFields e ∙ back g w in cc

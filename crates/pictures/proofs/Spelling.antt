@@ -12,7 +12,7 @@ use lib.Dec.{lit<}
 use lib.ListN.{length, take, drop, getD, replicate}
 use Rattle.laws.proofs.Cases.{both, and-l, and-r, join}
 use Rattle.digits.specs.Bytes.{bytesAt}
-use Rattle.digits.specs.Decimals.{isDigit, digitValue, allDigits, digitsOf, spelled, number}
+use Rattle.digits.specs.Decimals.{isDigit, digitValue, allDigits, digitsOf, spelled, numberAt}
 use Rattle.digits.proofs.Bytes.{bytes-length}
 use Rattle.pictures.specs.Parts.{Digits}
 use Rattle.digits.proofs.Decimals.{digit-range, value-digit, value-most, number-lt}
@@ -47,12 +47,12 @@ spelled-join s i (suc w) v a =
     let e : i + 1 + w ≡ i + suc w = omega arith in
     rw (suc-add) (spelled-join s (i + 1) w v (a * 10 + digitValue (getD s i 0)) ∙ ap (λ (j : ℕ). spelled (spelled (a * 10 + digitValue (getD s i 0)) (bytesAt s (i + 1) w)) (bytesAt s j v)) e)
 
-pub number-join : (s : List ℕ) (i w v : ℕ) → number s i (w + v) ≡ number s i w * 10 ^ v + number s (i + w) v
+pub number-join : (s : List ℕ) (i w v : ℕ) → numberAt s i (w + v) ≡ numberAt s i w * 10 ^ v + numberAt s (i + w) v
 number-join s i w v =
-    spelled-join s i w v 0 ∙ spelled-from (bytesAt s (i + w) v) (number s i w) ∙ rw (bytes-length s (i + w) v)
+    spelled-join s i w v 0 ∙ spelled-from (bytesAt s (i + w) v) (numberAt s i w) ∙ rw (bytes-length s (i + w) v)
 
 -- bytes that count nothing
-pub number-none : (s : List ℕ) (i w : ℕ) → ((x : ℕ) → i ≤ x → digitValue (getD s x 0) ≡ 0) → number s i w ≡ 0
+pub number-none : (s : List ℕ) (i w : ℕ) → ((x : ℕ) → i ≤ x → digitValue (getD s x 0) ≡ 0) → numberAt s i w ≡ 0
 unfolding spelled
 number-none s i zero h = refl
 number-none s i (suc w) h =
@@ -60,10 +60,10 @@ number-none s i (suc w) h =
     ap (λ (a : ℕ). spelled a (bytesAt s (i + 1) w)) e ∙ number-none s (i + 1) w (λ x l. h x (omega arith))
 
 -- so a number that ends with v such bytes is whole in tens to the v
-pub number-whole : (s : List ℕ) (i w v : ℕ) → ((x : ℕ) → i + w ≤ x → digitValue (getD s x 0) ≡ 0) → number s i (w + v) % 10 ^ v ≡ 0
+pub number-whole : (s : List ℕ) (i w v : ℕ) → ((x : ℕ) → i + w ≤ x → digitValue (getD s x 0) ≡ 0) → numberAt s i (w + v) % 10 ^ v ≡ 0
 number-whole s i w v h =
-    let e : number s i (w + v) ≡ 0 + number s i w * 10 ^ v = number-join s i w v ∙ omega (arith, number-none s (i + w) v h) in
-    ap (λ (n : ℕ). n % 10 ^ v) e ∙ add-mul-mod-self-right 0 (number s i w) (10 ^ v) ∙ zero-mod (10 ^ v)
+    let e : numberAt s i (w + v) ≡ 0 + numberAt s i w * 10 ^ v = number-join s i w v ∙ omega (arith, number-none s (i + w) v h) in
+    ap (λ (n : ℕ). n % 10 ^ v) e ∙ add-mul-mod-self-right 0 (numberAt s i w) (10 ^ v) ∙ zero-mod (10 ^ v)
 
 -- ---- digits are those of the number that they spell
 
@@ -85,11 +85,11 @@ again (b ∷ l) a e =
 low-bits : (b : ℕ) → isDigit b ≡ true → b % 16 ≡ digitValue b
 low-bits b e = omega (arith, digit-range b e, value-digit b e)
 
-pub one-low : (s : List ℕ) (i : ℕ) → Digits s i 1 → getD s i 0 % 16 ≡ number s i 1
+pub one-low : (s : List ℕ) (i : ℕ) → Digits s i 1 → getD s i 0 % 16 ≡ numberAt s i 1
 unfolding spelled allDigits
 one-low s i d = omega (arith, low-bits (getD s i 0) (and-l _ true (d .all)))
 
-pub pair-low : (s : List ℕ) (i : ℕ) → Digits s i 2 → getD s i 0 % 16 * 10 + getD s (i + 1) 0 % 16 ≡ number s i 2
+pub pair-low : (s : List ℕ) (i : ℕ) → Digits s i 2 → getD s i 0 % 16 * 10 + getD s (i + 1) 0 % 16 ≡ numberAt s i 2
 unfolding spelled allDigits
 pair-low s i d =
     let p = both (isDigit (getD s i 0)) (isDigit (getD s (i + 1) 0) && true) (d .all) in

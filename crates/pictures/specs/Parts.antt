@@ -7,7 +7,7 @@ use Prim.Native.Nat.{ℕ, _+_, _≤_}
 use lib.ListN.{length, take}
 use Rattle.digits.specs.Bytes.{bytesAt}
 use Rattle.digits.specs.Decimals.{allDigits}
-use Rattle.pictures.specs.Reading.{filled, hasPicture}
+use Rattle.pictures.specs.Reading.{inFull, hasPicture}
 
 -- an array of `size` bytes whose first `len` are the text
 pub record Holds (bytes : List ℕ) (len size : ℕ) (text : List ℕ) : Type 0 where
@@ -31,4 +31,4 @@ pub record Numbers (s : List ℕ) (at : ℕ) : Type 0 where
 -- r says whether the text s has a pattern's picture; t is then the text with its fraction in full
 pub record Fills (pattern : List ℕ) (n : ℕ) (s t : List ℕ) (r : Bool) : Type 0 where
   pub has : r ≡ hasPicture pattern n s
-  pub full : hasPicture pattern n s ≡ true → t ≡ filled pattern s
+  pub full : hasPicture pattern n s ≡ true → t ≡ inFull pattern s

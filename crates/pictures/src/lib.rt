@@ -4,7 +4,7 @@ ghost use mathlib.Core.List.{[], _++_};
 ghost use Prim.Native.Nat.{_+_, _-_, min, _≤_, _<_};
 ghost use lib.ListN.{length};
 ghost use Rattle.answer.specs.Buffers.{written, bufferAfter};
-ghost use Rattle.digits.specs.Decimals.{number};
+ghost use Rattle.digits.specs.Decimals.{numberAt};
 ghost use Rattle.pictures.specs.Pictures.{dateText, clockText, fractionText, pictureText};
 ghost use Rattle.pictures.specs.Parts.{Holds, Digits, Numbers, Fills};
 ghost use Rattle.pictures.specs.Reading.{asShown, like, rightLength, fieldsIn, readNumbered, readOfYear, readNamed, readFields};
@@ -29,7 +29,7 @@ pub struct Fields {
 }
 
 pub enum FieldsAnswer {
-    Shows(Fields),
+    Picture(Fields),
     NoPicture,
 }
 
@@ -206,28 +206,28 @@ pub fn write_fields(f: Fields, out: &mut [u8]) -> Written
 // The number that two digits spell. What a digit stands for is its last four bits.
 fn two_at(t: &[u8], i: usize) -> u32
     requires { ⌜ Digits (now t) i 2 ⌝ }
-    ensures { λ r. ⌜ (r ≡ number (now (t .entry)) i 2) × (r ≤ 99) ⌝ }
+    ensures { λ r. ⌜ (r ≡ numberAt (now (t .entry)) i 2) × (r ≤ 99) ⌝ }
 {
     (t[i] % 16) as u32 * 10 + (t[i + 1] % 16) as u32
 }
 
 fn three_at(t: &[u8], i: usize) -> u32
     requires { ⌜ Digits (now t) i 3 ⌝ }
-    ensures { λ r. ⌜ r ≡ number (now (t .entry)) i 3 ⌝ }
+    ensures { λ r. ⌜ r ≡ numberAt (now (t .entry)) i 3 ⌝ }
 {
     two_at(t, i) * 10 + (t[i + 2] % 16) as u32
 }
 
 fn four_at(t: &[u8], i: usize) -> u32
     requires { ⌜ Digits (now t) i 4 ⌝ }
-    ensures { λ r. ⌜ (r ≡ number (now (t .entry)) i 4) × (r ≤ 9999) ⌝ }
+    ensures { λ r. ⌜ (r ≡ numberAt (now (t .entry)) i 4) × (r ≤ 9999) ⌝ }
 {
     two_at(t, i) * 100 + two_at(t, i + 2)
 }
 
 fn six_at(t: &[u8], i: usize) -> u32
     requires { ⌜ Digits (now t) i 6 ⌝ }
-    ensures { λ r. ⌜ r ≡ number (now (t .entry)) i 6 ⌝ }
+    ensures { λ r. ⌜ r ≡ numberAt (now (t .entry)) i 6 ⌝ }
 {
     four_at(t, i) * 100 + two_at(t, i + 4)
 }
@@ -320,7 +320,7 @@ fn read_numbered(text: &[u8]) -> FieldsAnswer
     }
     let digits = digits_shown(text.len(), 20);
     let date = Date::Numbered(two_at(&t, 5), two_at(&t, 8));
-    FieldsAnswer::Shows(fields_in(&t, 11, digits, date))
+    FieldsAnswer::Picture(fields_in(&t, 11, digits, date))
 }
 
 fn read_of_year(text: &[u8]) -> FieldsAnswer
@@ -332,7 +332,7 @@ fn read_of_year(text: &[u8]) -> FieldsAnswer
     }
     let digits = digits_shown(text.len(), 18);
     let date = Date::OfYear(three_at(&t, 5));
-    FieldsAnswer::Shows(fields_in(&t, 9, digits, date))
+    FieldsAnswer::Picture(fields_in(&t, 9, digits, date))
 }
 
 fn read_named(text: &[u8]) -> FieldsAnswer
@@ -348,18 +348,18 @@ fn read_named(text: &[u8]) -> FieldsAnswer
     }
     let digits = digits_shown(text.len(), 21);
     let date = Date::Named(month, two_at(&t, 9));
-    FieldsAnswer::Shows(fields_in(&t, 12, digits, date))
+    FieldsAnswer::Picture(fields_in(&t, 12, digits, date))
 }
 
 // What a text shows, if it has a picture.
 pub fn read_fields(text: &[u8]) -> FieldsAnswer
     ensures { λ r. ⌜ r ≡ readFields (now (text .entry)) ⌝ }
 {
-    if let FieldsAnswer::Shows(f) = read_numbered(text) {
-        return FieldsAnswer::Shows(f);
+    if let FieldsAnswer::Picture(f) = read_numbered(text) {
+        return FieldsAnswer::Picture(f);
     }
-    if let FieldsAnswer::Shows(g) = read_of_year(text) {
-        return FieldsAnswer::Shows(g);
+    if let FieldsAnswer::Picture(g) = read_of_year(text) {
+        return FieldsAnswer::Picture(g);
     }
     read_named(text)
 }

@@ -14,7 +14,7 @@ use Rattle.leap.proofs.Facts.{accepted-to}
 use Rattle.leap.proofs.Moves.{at-first}
 use Rattle.labels.specs.declared.Label.{Label}
 use Rattle.labels.specs.Labels.{whole, labelTests}
-use Rattle.labels.specs.Seconds.{microOf, axisOf, first}
+use Rattle.labels.specs.Seconds.{microOf, axisOf, firstReading}
 use Rattle.labels.proofs.Years.{axis-is}
 use Rattle.labels.proofs.Uniform.{first-micro}
 use Rattle.stamp.specs.declared.Scale.the-variants.{Utc}
@@ -32,11 +32,11 @@ module _ (t : Table) (ok : accepted t ≡ true) (n : ℕ) (l : Label) (e : Shows
   -- the label's instant
   instant-is : instantFor t Utc (whole l) ≡ secondsOn n
   instant-is =
-      let a : ℤ = axisOf (offsetAt t) first +ℤ pos (1000000 * n) in
+      let a : ℤ = axisOf (offsetAt t) firstReading +ℤ pos (1000000 * n) in
       let ten = at-first t (accepted-to t ok) in
       ap (toInstant Utc) (all-tick t ok .keeps-the-seconds n l e)
       ∙ eq-from (toInstant Utc a) (secondsOn n)
-      (omega (arith, to-instant-is Utc a, sum-is (axisOf (offsetAt t) first) (pos (1000000 * n)), axis-is (microOf first) (offsetAt t 23664), first-micro, ap up ten, ap down ten, sum-is (negℤ (pos 883655990000000)) (pos (1000000 * n))))
+      (omega (arith, to-instant-is Utc a, sum-is (axisOf (offsetAt t) firstReading) (pos (1000000 * n)), axis-is (microOf firstReading) (offsetAt t 23664), first-micro, ap up ten, ap down ten, sum-is (negℤ (pos 883655990000000)) (pos (1000000 * n))))
 
   back : GivesInstant t 0 (whole l) (secondsOn n)
   unfolding instantOf

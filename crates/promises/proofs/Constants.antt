@@ -16,7 +16,7 @@ use Rattle.leap.proofs.Facts.{accepted-to}
 use Rattle.leap.proofs.Moves.{at-first}
 use Rattle.labels.specs.declared.Reading.{Reading}
 use Rattle.labels.specs.Labels.{label, at, monthOf}
-use Rattle.labels.specs.Seconds.{secondOf, microOf, first}
+use Rattle.labels.specs.Seconds.{secondOf, microOf, firstReading}
 use Rattle.labels.proofs.Years.{days-last}
 use Rattle.labels.proofs.Uniform.{first-micro}
 use Rattle.stamp.specs.declared.Scale.{Scale}
@@ -63,10 +63,10 @@ module _ (t : Table) (r : Reading) where
       let o : ℤ = offsetAt t (monthOf (r .label)) in
       eq-from (sinceNoon r) (instantFor t Utc r -ℤ (pos 1000000 *ℤ o)) (omega (arith, shown Utc, times-is 1000000 o, diff-is (instantFor t Utc r) (pos 1000000 *ℤ o)))
 
-first-instant : (t : Table) → accepted t ≡ true → instantFor t Utc first ≡ negℤ (pos (1000000 * 883655990))
+first-instant : (t : Table) → accepted t ≡ true → instantFor t Utc firstReading ≡ negℤ (pos (1000000 * 883655990))
 first-instant t ok =
     let ten = at-first t (accepted-to t ok) in
-    eq-from (instantFor t Utc first) (negℤ (pos (1000000 * 883655990))) (omega (arith, instant-is Utc (microOf first) (offsetAt t 23664), first-micro, ap up ten, ap down ten))
+    eq-from (instantFor t Utc firstReading) (negℤ (pos (1000000 * 883655990))) (omega (arith, instant-is Utc (microOf firstReading) (offsetAt t 23664), first-micro, ap up ten, ap down ten))
 
 pub constants : Constants
 constants =

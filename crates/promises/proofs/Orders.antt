@@ -30,7 +30,8 @@ use Rattle.leap.specs.Leap.{accepted, offsetAt}
 use Rattle.labels.specs.declared.Label.{Label}
 use Rattle.labels.specs.declared.Reading.{Reading}
 use Rattle.labels.specs.Labels.{uniform, label, whole, monthOf, realMonth, realDay, minuteLength, hasSecond, labelTests}
-use Rattle.labels.specs.Seconds.{secondOf, microOf, axisOf, first, last as last-reading, inYears as inLabels, readingAt}
+use Rattle.labels.specs.Seconds.{secondOf, microOf, axisOf, firstReading, lastReading as last-reading, inYears as inLabels}
+use Rattle.labels.specs.Back.{readingAt}
 use Rattle.labels.proofs.Admitted.{admitted-to, admitted-from}
 use Rattle.labels.proofs.Exists.{second-uniform}
 use Rattle.labels.proofs.Labelled.{At as Stood}
@@ -46,14 +47,14 @@ use Rattle.stamp.proofs.Scales.{to-instant-is, to-axis-is}
 use Rattle.clock.specs.declared.TickAnswer.{TickAnswer}
 use Rattle.clock.specs.declared.TickAnswer.the-variants.{Next, Refused as NoTick}
 use Rattle.clock.specs.Clock.{next, start, tick, tickResults, onward, after}
-use Rattle.clock.specs.Promise.{last, ended}
+use Rattle.clock.specs.Promise.{lastLabel, ended}
 use Rattle.clock.proofs.Promise.{all-tick}
 use Rattle.block.specs.Blocks.{blockOf, tests}
 use Rattle.pictures.specs.declared.Date.{Date}
 use Rattle.pictures.specs.declared.Date.the-variants.{Numbered, OfYear, Named}
 use Rattle.pictures.specs.declared.Fields.{Fields}
 use Rattle.pictures.specs.declared.FieldsAnswer.{FieldsAnswer}
-use Rattle.pictures.specs.declared.FieldsAnswer.the-variants.{Shows, NoPicture}
+use Rattle.pictures.specs.declared.FieldsAnswer.the-variants.{Picture, NoPicture}
 use Rattle.pictures.specs.Pictures.{pictureText, WellFormed}
 use Rattle.pictures.specs.Reading.{readFields}
 use Rattle.pictures.proofs.Promise.{back, shown}
@@ -63,7 +64,7 @@ use Rattle.text.proofs.Exactly.{sized}
 use Rattle.julian.specs.declared.JulianDate.{JulianDate}
 use Rattle.julian.specs.declared.JulianAnswer.the-variants.{Refused as NoDate}
 use Rattle.julian.specs.Fraction.{isFraction}
-use Rattle.julian.specs.Midnight.{isMidnight, inYears, dayNumber}
+use Rattle.julian.specs.Midnight.{isMidnight, midnightInYears, dayNumber}
 use Rattle.julian.specs.Dates.{writeJulian, julianResults, pairTests, microRead, readJulian}
 use Rattle.julian.proofs.Years.{years}
 use Rattle.promises.specs.Orders.{verdict, Verdicts, realMonthDay, withinLabels, instantOfTests, realAsShown, readTextTests, instantTests, writeTextTests, readJulianTests, ShownBy, startTests, isLast, tickTests, Orders, GivenExactly}
@@ -98,7 +99,7 @@ verdicts =
 -- an instant is in range exactly from the first label's to the last's: the axis is the instant moved
 in-range : (t : Table) (s : Scale) (x : ℤ) → inRange t s x ≡ withinLabels t s x
 unfolding inLabels
-in-range t s x = ap₂ _&&_ (not-before (axisOf (offsetsOf t s) first)) (not-after (axisOf (offsetsOf t s) last-reading))
+in-range t s x = ap₂ _&&_ (not-before (axisOf (offsetsOf t s) firstReading)) (not-after (axisOf (offsetsOf t s) last-reading))
   where
     not-before : (a : ℤ) → leZ a (toAxis s x) ≡ leZ (toInstant s a) x
     not-before a =
@@ -128,7 +129,7 @@ date-is y h mi s (Named m d) = refl
 
 -- ---- the last tick
 
-is-last : (l : Label) → isLast l ≡ true → l ≡ last
+is-last : (l : Label) → isLast l ≡ true → l ≡ lastLabel
 is-last l e =
     let year : l .year ≡ 9999 = search (and-l, eqb-true) in
     let month : l .month ≡ 12 = search (and-l, and-r, eqb-true) in
@@ -136,17 +137,17 @@ is-last l e =
     let hour : l .hour ≡ 23 = search (and-l, and-r, eqb-true) in
     let minute : l .minute ≡ 59 = search (and-l, and-r, eqb-true) in
     let second : l .second ≡ 59 = search (and-l, and-r, eqb-true) in
-    let same : label (l .year) (l .month) (l .day) (l .hour) (l .minute) (l .second) ≡ last = cc in
+    let same : label (l .year) (l .month) (l .day) (l .hour) (l .minute) (l .second) ≡ lastLabel = cc in
     same
 
 module _ (t : Table) (ok : accepted t ≡ true) where
-  last-ticks : tickResults (tick t last) ≡ ended
+  last-ticks : tickResults (tick t lastLabel) ≡ ended
   unfolding after
   last-ticks =
       let w = all-tick t ok .ends in
       ap (λ (a : TickAnswer). tickResults (onward t a)) (sym (next-is (after t (w .0)) (w .1 .ends-with))) ∙ w .1 .stays-refused (suc (w .0)) (omega arith)
     where
-      next-is : (a : TickAnswer) → tickResults a ≡ (0, last) → a ≡ Next last
+      next-is : (a : TickAnswer) → tickResults a ≡ (0, lastLabel) → a ≡ Next lastLabel
       next-is (Next l) e = ap (λ v. Next (v .1)) e
       next-is (NoTick why) e = absurd (number-some why (ap (λ v. v .0) e))
 
@@ -190,7 +191,7 @@ module _ (t : Table) where
       ∙ refusing-map (λ a. textResults a .0) NoText (scaleTests t k) (NoText SHAPE)
     where
       go : (a : FieldsAnswer) → readFields text ≡ a → a ≡ NoPicture
-      go (Shows g) e = let w = shown text g e in absurd (none g (w .0) (w .1))
+      go (Picture g) e = let w = shown text g e in absurd (none g (w .0) (w .1))
       go NoPicture e = refl
 
   -- and of an instant
@@ -216,7 +217,7 @@ module _ (t : Table) where
     u = microRead p
 
     -- a pair's day is 1972-01-01 or later, and so is its microsecond
-    begun : inYears (p .midnight) ≡ true → 62230291200000000 ≤ u
+    begun : midnightInYears (p .midnight) ≡ true → 62230291200000000 ≤ u
     unfolding microRead dayNumber
     begun e = omega (arith, years (p .midnight) (subst T (sym e) tt) .range)
 
@@ -229,7 +230,7 @@ module _ (t : Table) where
         ∙ past number (scaleTests t k ++ pairTests p)
         (λ e.
         let low : 62230291200000000 ≤ u = begun (search (and-l, and-r)) in
-        ap (λ (b : Bool). cond (b && leb u (microOf last-reading)) (cond (hasSecond o (readingAt uniform u .label)) 0 6) 7) (le-leb (microOf first) u (omega (arith, first-micro)))
+        ap (λ (b : Bool). cond (b && leb u (microOf last-reading)) (cond (hasSecond o (readingAt uniform u .label)) 0 6) 7) (le-leb (microOf firstReading) u (omega (arith, first-micro)))
         ∙ past number ((leb u (microOf last-reading), RANGE) ∷ []) (λ f. ap (λ (q : Reading). cond (hasSecond o (q .label)) 0 6) (h low (omega (arith, last-micro, leb-true u (microOf last-reading) (and-l _ true f))))))
         ∙ rw (joined (isMidnight (p .midnight)) (isFraction (p .fraction)))
 

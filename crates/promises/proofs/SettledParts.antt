@@ -12,14 +12,14 @@ use lib.ListN.{length, drop, length-drop}
 use lib.Seq.{length-take-le}
 use Rattle.laws.proofs.Cases.{and-r}
 use Rattle.laws.specs.Placed.{place}
-use Rattle.digits.specs.Bytes.{next, appended, Counts, Appended}
+use Rattle.digits.specs.Bytes.{endOf, appended, Counts, Appended}
 use Rattle.digits.proofs.Bytes.{room-yes, room-no}
 use Rattle.lines.specs.Words.{before}
 use Rattle.lines.specs.Pairs.{nibble}
 use Rattle.fields.specs.declared.Cursor.{Cursor}
 use Rattle.fields.specs.declared.U32Field.{U32Field}
 use Rattle.fields.specs.declared.I32Field.{I32Field}
-use Rattle.mundreff.specs.Settles.{Lent, Settles}
+use Rattle.laws.specs.Settles.{Lent, Settles}
 use Rattle.mundreff.proofs.Settled.{equal, each, following}
 use Rattle.promises.specs.SettledParts.{SettledParts, SettledTables, SettledBytes}
 
@@ -60,15 +60,15 @@ settled-tables count months offsets =
 -- ---- what follows
 
 -- a text appended: where the next goes stands within the buffer
-appends-so : (l : List ℕ) (i : ℕ) (v : List ℕ) → Appended l i v (next l i v) (appended l i v)
-unfolding next appended
+appends-so : (l : List ℕ) (i : ℕ) (v : List ℕ) → Appended l i v (endOf l i v) (appended l i v)
+unfolding endOf appended
 appends-so l i v = go (leb (i + length v) (length l)) refl
   where
     go : (t : Bool) → leb (i + length v) (length l) ≡ t → Appended l i v (cond t (i + length v) (min i (length l))) (cond t (place l i v) l)
     go true e = room-yes l i v (leb-true (i + length v) (length l) e) refl
     go false e = room-no l i v (leb-false (i + length v) (length l) e) refl
 
-appends : {l : List ℕ} {i : ℕ} {v : List ℕ} → Settles Unit (λ (a : ℕ × List ℕ). Appended l i v (a .0) (a .1)) (next l i v, appended l i v)
+appends : {l : List ℕ} {i : ℕ} {v : List ℕ} → Settles Unit (λ (a : ℕ × List ℕ). Appended l i v (a .0) (a .1)) (endOf l i v, appended l i v)
 appends {l} {i} {v} =
     record {
       asks-nothing = tt;
@@ -101,10 +101,10 @@ nibble-low b =
     (low (leb 97 b && leb b 102) (λ e. omega (arith, leb-true b 102 (and-r (leb 97 b) _ e))) (omega arith)))
 
 abbrev u32Field : ℕ → Cursor → U32Field
-u32Field v n = record { value = v; next = n }
+u32Field v n = record { value = v; endOf = n }
 
 abbrev i32Field : ℤ → Cursor → I32Field
-i32Field v n = record { value = v; next = n }
+i32Field v n = record { value = v; endOf = n }
 
 pub settled-bytes : SettledBytes
 settled-bytes =

@@ -31,7 +31,7 @@ use Rattle.block.specs.Desk.{blockB, blockT, blockN, tableT, tableN}
 use Rattle.block.specs.Reading.{readGroups, readEntries, inBlock}
 use Rattle.block.proofs.Desk.{named-right}
 use Rattle.pictures.specs.declared.FieldsAnswer.{FieldsAnswer}
-use Rattle.pictures.specs.declared.FieldsAnswer.the-variants.{Shows, NoPicture}
+use Rattle.pictures.specs.declared.FieldsAnswer.the-variants.{Picture, NoPicture}
 use Rattle.pictures.specs.Pictures.{pictureText}
 use Rattle.pictures.specs.Reading.{like, readNumbered, readOfYear, readNamed, readFields}
 use Rattle.text.specs.declared.TextAnswer.{TextAnswer}
@@ -58,11 +58,11 @@ is-N = ap (λ r. r .2) (named-right .1 .1 .1 .0 .1)
 
 -- with the short way to an instant
 abbrev quickly : Table → Scale → FieldsAnswer → TextAnswer
-quickly t s (Shows f) = let r = readingOf f in refusing Refused (labelTests (offsetsOf t s) (mostSecond s) r) (Read (quickInstant t s r) (stamp s r))
+quickly t s (Picture f) = let r = readingOf f in refusing Refused (labelTests (offsetsOf t s) (mostSecond s) r) (Read (quickInstant t s r) (stamp s r))
 quickly t s NoPicture = Refused SHAPE
 
 quick-fields : (t : Table) (s : Scale) (a : FieldsAnswer) → fieldsRead t s a ≡ quickly t s a
-quick-fields t s (Shows f) = rw (quick-instant t s (readingOf f)) refl
+quick-fields t s (Picture f) = rw (quick-instant t s (readingOf f)) refl
 quick-fields t s NoPicture = refl
 
 quick : {b t : Table} → b ≡ t → (k : ℕ) (text : List ℕ) → textResults (readText b k text) ≡ textResults (refusing Refused (scaleTests t k) (quickly t (scaleOf k) (readFields text)))

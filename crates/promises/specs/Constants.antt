@@ -7,10 +7,10 @@ use lib.IntN.{ℤ, pos, negℤ, _+ℤ_, _-ℤ_, _*ℤ_}
 use lib.Ieee.Exact.{HasValue}
 use Rattle.months.specs.Months.{monthLength, daysBefore}
 use Rattle.leap.specs.declared.Table.{Table}
-use Rattle.leap.specs.Leap.{accepted, epoch, offsetAt, lastMonth as tableMonths}
+use Rattle.leap.specs.Leap.{accepted, epoch, offsetAt, lastEntryMonth as tableMonths}
 use Rattle.labels.specs.declared.Reading.{Reading}
 use Rattle.labels.specs.Labels.{label, at, monthOf}
-use Rattle.labels.specs.Seconds.{secondOf, microOf, firstMonth, lastMonth, endMonth, first}
+use Rattle.labels.specs.Seconds.{secondOf, microOf, firstMonth, lastMonth, endMonth, firstReading}
 use Rattle.stamp.specs.declared.Scale.the-variants.{Utc, Tai, Tdt, Gps}
 use Rattle.stamp.specs.Scales.{instantFor}
 use Rattle.julian.specs.Fraction.{day}
@@ -33,7 +33,7 @@ pub record Constants : Type 0 where
   pub gps : (t : Table) (r : Reading) → sinceNoon r ≡ instantFor t Gps r -ℤ pos 19000000
   pub utc : (t : Table) (r : Reading) → sinceNoon r ≡ instantFor t Utc r -ℤ (pos 1000000 *ℤ offsetAt t (monthOf (r .label)))
   -- labels begin 883,655,990 seconds before that noon, on UTC
-  pub first-instant : (t : Table) → accepted t ≡ true → instantFor t Utc first ≡ negℤ (pos (1000000 * 883655990))
+  pub first-instant : (t : Table) → accepted t ≡ true → instantFor t Utc firstReading ≡ negℤ (pos (1000000 * 883655990))
   -- January 1972, where tables and labels begin, is month 23,664
   pub january-1972 : (monthOf (label 1972 1 1 0 0 0) ≡ 23664) × ((epoch ≡ 23664) × (firstMonth ≡ 23664))
   -- December 9999, where both end, is 96,335 months later, and month 120,000 is the one after it

@@ -21,7 +21,7 @@ use Rattle.leap.specs.Leap.{accepted, offsetAt}
 use Rattle.labels.specs.declared.Label.{Label}
 use Rattle.labels.specs.declared.Reading.{Reading}
 use Rattle.labels.specs.Labels.{uniform, whole, realYear, realMonth, realDay, realClock, hasSecond, admitted}
-use Rattle.labels.specs.Seconds.{microOf, first, last}
+use Rattle.labels.specs.Seconds.{microOf, firstReading, lastReading}
 use Rattle.stamp.specs.declared.Scale.{Scale}
 use Rattle.stamp.specs.Scales.{scaleOf, knownScale, offsetsOf, mostSecond, instantFor}
 use Rattle.stamp.specs.Stamps.{instantOf, instantResults, stampOf, stampResults}
@@ -34,7 +34,7 @@ use Rattle.pictures.specs.Pictures.{pictureText, WellFormed}
 use Rattle.text.specs.Text.{readingOf, readText, textResults, writeText}
 use Rattle.julian.specs.declared.JulianDate.{JulianDate}
 use Rattle.julian.specs.Fraction.{isFraction}
-use Rattle.julian.specs.Midnight.{isMidnight, inYears}
+use Rattle.julian.specs.Midnight.{isMidnight, midnightInYears}
 use Rattle.julian.specs.Dates.{writeJulian, julianResults, microRead, readJulian}
 
 -- the numbers of a list of tests
@@ -89,7 +89,7 @@ readTextTests t k pictured f =
 
 -- it is from the instant of the scale's first label, 1972-01-01 00:00:00, to that of its last, the last microsecond of 9999
 abbrev pub withinLabels : Table → Scale → ℤ → Bool
-withinLabels t s x = leZ (instantFor t s first) x && leZ x (instantFor t s last)
+withinLabels t s x = leZ (instantFor t s firstReading) x && leZ x (instantFor t s lastReading)
 
 -- `stamp_of` and `write_julian`: the instant x on scale number k
 abbrev pub instantTests : Table → ℕ → ℤ → List (Bool × Refusal)
@@ -116,8 +116,8 @@ readJulianTests t k p r =
     (knownScale k, ASK)
     ∷ (accepted t, TABLE)
     ∷ (isMidnight (p .midnight) && isFraction (p .fraction), NUMBER)
-    ∷ (inYears (p .midnight), RANGE)
-    ∷ (leb (microRead p) (microOf last), RANGE)
+    ∷ (midnightInYears (p .midnight), RANGE)
+    ∷ (leb (microRead p) (microOf lastReading), RANGE)
     ∷ (hasSecond (offsetsOf t (scaleOf k)) (r .label), NOSECOND)
     ∷ []
 

@@ -18,7 +18,7 @@ use Rattle.text.specs.Text.{readText, writeText, writeTextAfter}
 use Rattle.julian.specs.declared.JulianDate.{JulianDate}
 use Rattle.julian.specs.Dates.{writeJulian, readJulian}
 use Rattle.listing.specs.Listing.{listed}
-use Rattle.mundreff.specs.Settles.{_&_, Lent, _becomes_, Gives, Leaves}
+use Rattle.laws.specs.Settles.{_&_, Lent, _becomes_, Gives, Leaves}
 use Rattle.leap.proofs.bulletin_c.Reads as leap-bulletin-c
 use Rattle.block.proofs.read_block.Reads as block-read-block
 use Rattle.block.proofs.write_block.Reads as block-write-block

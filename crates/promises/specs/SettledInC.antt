@@ -16,7 +16,7 @@ use Rattle.julian.specs.Dates.{writeJulian, readJulian}
 use Rattle.mundreff.specs.Words.{tableFrom, tableWords}
 use Rattle.mundreff.specs.Answers.{tableNumbers, stampNumbers, textNumbers, labelNumbers, pairNumbers}
 use Rattle.mundreff.specs.Calls.{labelFrom, scaleFrom, readingFrom, pair}
-use Rattle.mundreff.specs.Settles.{_&_, Lent, _becomes_, Leaves, LeavesTwo, also}
+use Rattle.laws.specs.Settles.{_&_, Lent, _becomes_, Leaves, LeavesTwo, also}
 use Rattle.mundreff.proofs.mundreff_bulletin_c.Reads as c-bulletin-c
 use Rattle.mundreff.proofs.mundreff_read_block.Reads as c-read-block
 use Rattle.mundreff.proofs.mundreff_write_block.Reads as c-write-block

@@ -11,7 +11,7 @@ use denote.Ref.{now}
 use Rattle.answer.specs.declared.Refusal.{Refusal}
 use Rattle.answer.specs.Refusals.{number}
 use Rattle.answer.specs.Buffers.{written, bufferAfter}
-use Rattle.digits.specs.Bytes.{next, appended}
+use Rattle.digits.specs.Bytes.{endOf, appended}
 use Rattle.digits.specs.Decimals.{digitsOf, decimalOf, decimalText, signedText}
 use Rattle.digits.specs.Months.{monthName, monthNamed}
 use Rattle.months.specs.Months.{daysBefore, monthLength}
@@ -24,7 +24,7 @@ use Rattle.labels.specs.declared.Label.{Label}
 use Rattle.labels.specs.declared.Reading.{Reading}
 use Rattle.labels.specs.declared.Place.{Place}
 use Rattle.labels.specs.Labels.{judged, inLastMinute, minuteIn}
-use Rattle.labels.specs.Seconds.{labelOf}
+use Rattle.labels.specs.Back.{labelOf}
 use Rattle.stamp.specs.declared.Scale.{Scale}
 use Rattle.stamp.specs.Scales.{scaleOf, scaleNumber, asked}
 use Rattle.stamp.specs.Stamps.{instantIn, stampOf}
@@ -39,7 +39,7 @@ use Rattle.fields.specs.declared.U32Field.{U32Field}
 use Rattle.fields.specs.declared.I32Field.{I32Field}
 use Rattle.fields.specs.Words.{wordAt}
 use Rattle.fields.specs.Fields.{naturalAt, integerAt, hexAt, patternAt}
-use Rattle.mundreff.specs.Settles.{_&_, Lent, _becomes_, Gives, Leaves}
+use Rattle.laws.specs.Settles.{_&_, Lent, _becomes_, Gives, Leaves}
 use Rattle.answer.proofs.number_of.Reads as answer-number-of
 use Rattle.answer.proofs.write.Reads as answer-write
 use Rattle.digits.proofs.byte_at.Reads as digits-byte-at
@@ -130,16 +130,16 @@ pub record SettledBytes : Type 0 where
   pub byte-at : (s : Lent (List ℕ)) (i : ℕ) → Gives digits-byte-at.Pre digits-byte-at.Post (s & i & tt) (getD (now s) i 0)
   pub append : (out : Lent (List ℕ)) (at : ℕ) (text : Lent (List ℕ)) →
       Leaves digits-append.Pre digits-append.Post (out & at & text & tt) (λ after. out becomes after & at & text & tt)
-      (next (now out) at (now text), appended (now out) at (now text))
+      (endOf (now out) at (now text), appended (now out) at (now text))
   pub append-unsigned : (out : Lent (List ℕ)) (at n : ℕ) →
       Leaves digits-append-unsigned.Pre digits-append-unsigned.Post (out & at & n & tt) (λ after. out becomes after & at & n & tt)
-      (next (now out) at (decimalText n), appended (now out) at (decimalText n))
+      (endOf (now out) at (decimalText n), appended (now out) at (decimalText n))
   pub append-signed : (out : Lent (List ℕ)) (at : ℕ) (z : ℤ) →
       Leaves digits-append-signed.Pre digits-append-signed.Post (out & at & z & tt) (λ after. out becomes after & at & z & tt)
-      (next (now out) at (signedText z), appended (now out) at (signedText z))
+      (endOf (now out) at (signedText z), appended (now out) at (signedText z))
   pub append-hex : (out : Lent (List ℕ)) (at : ℕ) (bytes : Lent (List ℕ)) →
       Leaves lines-append-hex.Pre lines-append-hex.Post (out & at & bytes & tt) (λ after. out becomes after & at & bytes & tt)
-      (next (now out) at (hexShown (now bytes)), appended (now out) at (hexShown (now bytes)))
+      (endOf (now out) at (hexShown (now bytes)), appended (now out) at (hexShown (now bytes)))
   pub decimal : (word : Lent (List ℕ)) (most : ℕ) → Gives digits-decimal.Pre digits-decimal.Post (word & most & tt) (decimalOf most (now word))
   pub digits : (n : ℕ) → Gives digits-digits.Pre digits-digits.Post (n & tt) (digitsOf 6 n)
   pub month-name : (month : ℕ) → Gives digits-month-name.Pre digits-month-name.Post (month & tt) (monthName month)
@@ -158,11 +158,11 @@ pub record SettledBytes : Type 0 where
   pub number-field : (line : Lent (List ℕ)) (c : Cursor) (most : ℕ) → Gives fields-number-field.Pre fields-number-field.Post (line & c & most & tt) (naturalAt most (now line) c)
   pub u32-field : (line : Lent (List ℕ)) (c : Cursor) →
       Gives {R = U32Field} fields-u32-field.Pre fields-u32-field.Post (line & c & tt)
-      (record { value = naturalAt (2 ^ 32 - 1) (now line) c .value; next = naturalAt (2 ^ 32 - 1) (now line) c .next })
+      (record { value = naturalAt (2 ^ 32 - 1) (now line) c .value; endOf = naturalAt (2 ^ 32 - 1) (now line) c .next })
   pub i64-field : (line : Lent (List ℕ)) (c : Cursor) → Gives fields-i64-field.Pre fields-i64-field.Post (line & c & tt) (integerAt (2 ^ 63 - 1) (now line) c)
   pub i32-field : (line : Lent (List ℕ)) (c : Cursor) →
       Gives {R = I32Field} fields-i32-field.Pre fields-i32-field.Post (line & c & tt)
-      (record { value = integerAt (2 ^ 31 - 1) (now line) c .value; next = integerAt (2 ^ 31 - 1) (now line) c .next })
+      (record { value = integerAt (2 ^ 31 - 1) (now line) c .value; endOf = integerAt (2 ^ 31 - 1) (now line) c .next })
   pub hex-field : (line : Lent (List ℕ)) (c : Cursor) (out : Lent (List ℕ)) →
       Leaves fields-hex-field.Pre fields-hex-field.Post (line & c & out & tt) (λ after. line & c & out becomes after & tt)
       (hexAt (length (now out)) (now line) c, hexInto (now out) (wordAt (now line) (c .at)))

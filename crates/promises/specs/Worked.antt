@@ -19,7 +19,7 @@ use Rattle.labels.specs.Labels.{at}
 use Rattle.stamp.specs.Scales.{scaleOf}
 use Rattle.stamp.specs.Stamps.{noStamp}
 use Rattle.stamp.specs.Promise.{stamp}
-use Rattle.block.specs.Desk.{blockB, blockT, blockN, named, AllRight as BlocksRight}
+use Rattle.block.specs.Desk.{blockB, blockT, blockN, named, AllBlocksRight}
 use Rattle.block.specs.Reading.{readBlock}
 use Rattle.text.specs.Text.{readText, textResults, writeText, writeTextAfter}
 use Rattle.julian.specs.Dates.{writeJulian, julianResults}
@@ -96,6 +96,6 @@ AllRight (r ∷ rs) = Right r × AllRight rs
 
 pub record Worked : Type 0 where
   -- B is the block of Bulletin C and takes 29 bytes; T has two added seconds, N a taken-out one
-  pub named-blocks : BlocksRight named
+  pub named-blocks : AllBlocksRight named
   pub proved-set : AllRight rows
   pub further-rows : AllRight furtherRows

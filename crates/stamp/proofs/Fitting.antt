@@ -9,7 +9,8 @@ use mir.Syntax.{w32, w64}
 use mir.Val.{SFits, Fits}
 use Rattle.laws.proofs.Difference.{sum-is, diff-is, integers}
 use Rattle.laws.proofs.Machine.{Within, one-side, fits-to, fits-from, casts-from, times-is}
-use Rattle.labels.specs.Seconds.{axisAt, dayBegins}
+use Rattle.labels.specs.Seconds.{axisAt}
+use Rattle.labels.specs.Back.{dayBegins}
 
 pub fits64 : (z : ℤ) → Within 900000000000000000 900000000000000000 z → SFits w64 z
 fits64 z h = fits-from z (omega arith) (omega arith)

@@ -14,7 +14,8 @@ use Rattle.answer.proofs.Orders.{refusing-map, was-passed}
 use Rattle.leap.specs.declared.Table.{Table}
 use Rattle.leap.proofs.Facts.{Accepted, accepted-to}
 use Rattle.labels.specs.Labels.{Offsets}
-use Rattle.labels.specs.Seconds.{microOf, labelOf, labelAt}
+use Rattle.labels.specs.Seconds.{microOf}
+use Rattle.labels.specs.Back.{labelOf, labelAt}
 use Rattle.labels.proofs.Falls.{Covered}
 use Rattle.labels.proofs.Labelled.{label-shows, place-few}
 use Rattle.labels.proofs.Years.{covered-to}
@@ -25,7 +26,7 @@ use Rattle.stamp.specs.declared.MomentAnswer.the-variants.{In, Refused a
 use Rattle.stamp.specs.declared.StampAnswer.{StampAnswer}
 use Rattle.stamp.specs.declared.StampAnswer.the-variants.{Stamped, Refused as NoStamp}
 use Rattle.stamp.specs.declared.ShownAnswer.{ShownAnswer}
-use Rattle.stamp.specs.declared.ShownAnswer.the-variants.{Shows, Refused as NotShown}
+use Rattle.stamp.specs.declared.ShownAnswer.the-variants.{Shown, Refused as NotShown}
 use Rattle.stamp.specs.Scales.{scaleOf, scaleTests, offsetsOf}
 use Rattle.stamp.specs.Back.{inRange, axisCount, stampAt, shownOf}
 use Rattle.stamp.specs.Stamps.{stampOf}
@@ -38,7 +39,7 @@ stamped (In m) = Stamped (record { scale = m .scale; reading = record { label = 
 stamped (Nowhere why) = NoStamp why
 
 abbrev pub shown : MomentAnswer → ShownAnswer
-shown (In m) = Shows (1000000 * (86400 * m .place .start + m .place .second) + m .micro)
+shown (In m) = Shown (1000000 * (86400 * m .place .start + m .place .second) + m .micro)
 shown (Nowhere why) = NotShown why
 
 -- two orders with the same tests answer alike where their answers are the same once all tests pass
@@ -72,8 +73,8 @@ module _ (t : Table) (x : ℤ) (k : ℕ) where
     covered : Covered o (axisCount sc x / 1000000)
     covered = covered-to o (steps t acc sc) (axisCount sc x) (count-in-years t acc sc x (search (and-l, and-r)))
 
-    shows : shown (In (momentAt t sc x)) ≡ Shows (microOf (stampAt t sc x .reading))
-    shows = ap (λ (n : ℕ). Shows (1000000 * n + axisCount sc x % 1000000)) (sym (label-shows o (steps t acc sc) (axisCount sc x / 1000000) covered))
+    shows : shown (In (momentAt t sc x)) ≡ Shown (microOf (stampAt t sc x .reading))
+    shows = ap (λ (n : ℕ). Shown (1000000 * n + axisCount sc x % 1000000)) (sym (label-shows o (steps t acc sc) (axisCount sc x / 1000000) covered))
 
   pub shown-of-moment : shown (momentOf t x k) ≡ shownOf t x k
   unfolding momentOf shownOf

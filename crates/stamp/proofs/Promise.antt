@@ -21,7 +21,8 @@ use Rattle.leap.proofs.Facts.{Accepted, accepted-to}
 use Rattle.labels.specs.declared.Label.{Label}
 use Rattle.labels.specs.declared.Reading.{Reading}
 use Rattle.labels.specs.Labels.{Offsets, labelTests}
-use Rattle.labels.specs.Seconds.{axisOf, inYears, labelAt, readingAt}
+use Rattle.labels.specs.Seconds.{axisOf, inYears}
+use Rattle.labels.specs.Back.{labelAt, readingAt}
 use Rattle.labels.proofs.Falls.{Covered}
 use Rattle.labels.proofs.Admitted.{Admitted, admitted-to, admitted-from}
 use Rattle.labels.proofs.Years.{axis-second, covered-to, covered-from}

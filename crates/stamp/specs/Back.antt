@@ -11,13 +11,14 @@ use Rattle.answer.specs.declared.Refusal.the-variants.{NoSecond as NOSECOND, Ra
 use Rattle.answer.specs.Refusals.{refusing}
 use Rattle.leap.specs.declared.Table.{Table}
 use Rattle.labels.specs.Labels.{uniform, hasSecond}
-use Rattle.labels.specs.Seconds.{microOf, first, last, inYears, readingAt}
+use Rattle.labels.specs.Seconds.{microOf, firstReading, lastReading, inYears}
+use Rattle.labels.specs.Back.{readingAt}
 use Rattle.stamp.specs.declared.Scale.{Scale}
 use Rattle.stamp.specs.declared.Stamp.{Stamp}
 use Rattle.stamp.specs.declared.InstantAnswer.{InstantAnswer}
 use Rattle.stamp.specs.declared.InstantAnswer.the-variants.{At, Refused}
 use Rattle.stamp.specs.declared.ShownAnswer.{ShownAnswer}
-use Rattle.stamp.specs.declared.ShownAnswer.the-variants.{Shows, Refused as NotShown}
+use Rattle.stamp.specs.declared.ShownAnswer.the-variants.{Shown, Refused as NotShown}
 use Rattle.stamp.specs.Scales.{scaleOf, scaleTests, offsetsOf, toAxis, instantFor}
 
 -- ---- the stamp of an instant
@@ -37,11 +38,11 @@ stampAt t s x = record { scale = s; reading = readingAt (offsetsOf t s) (axisCou
 
 -- `shown_of`
 unfoldable pub shownOf : Table → ℤ → ℕ → ShownAnswer
-shownOf t x k = refusing NotShown (scaleTests t k ++ (inRange t (scaleOf k) x, RANGE) ∷ []) (Shows (microOf (stampAt t (scaleOf k) x .reading)))
+shownOf t x k = refusing NotShown (scaleTests t k ++ (inRange t (scaleOf k) x, RANGE) ∷ []) (Shown (microOf (stampAt t (scaleOf k) x .reading)))
 
 abbrev pub showingTests : Table → Scale → ℕ → List (Bool × Refusal)
 showingTests t s u =
-    (leb (microOf first) u && leb u (microOf last), RANGE) ∷ (hasSecond (offsetsOf t s) (readingAt uniform u .label), NOSECOND) ∷ []
+    (leb (microOf firstReading) u && leb u (microOf lastReading), RANGE) ∷ (hasSecond (offsetsOf t s) (readingAt uniform u .label), NOSECOND) ∷ []
 
 -- `instant_showing`: of the reading that shows it and has no second 60
 unfoldable pub instantShowing : Table → Scale → ℕ → InstantAnswer

@@ -6,7 +6,7 @@ use lib.IntN.{ℤ, pos}
 use Rattle.answer.specs.declared.Refusal.the-variants.{Range as RANGE}
 use Rattle.answer.specs.Refusals.{refusing}
 use Rattle.leap.specs.declared.Table.{Table}
-use Rattle.labels.specs.Seconds.{placeAt}
+use Rattle.labels.specs.Back.{placeAt}
 use Rattle.stamp.specs.declared.Scale.{Scale}
 use Rattle.stamp.specs.declared.Scale.the-variants.{Utc, Tai, Tdt, Gps}
 use Rattle.stamp.specs.declared.Moment.{Moment}

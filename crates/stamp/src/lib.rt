@@ -12,7 +12,8 @@ ghost use Rattle.leap.specs.Leap.{tabled, accepted};
 ghost use Rattle.months.specs.Months.{daysBefore};
 ghost use Rattle.labels.specs.declared.Judged.the-variants.{Real};
 ghost use Rattle.labels.specs.Labels.{uniform, monthOf, judged, hasSecond};
-ghost use Rattle.labels.specs.Seconds.{microOf, axisAt, inYears, lastMonth, dayBegins, placeAt};
+ghost use Rattle.labels.specs.Seconds.{microOf, axisAt, inYears, lastMonth};
+ghost use Rattle.labels.specs.Back.{dayBegins, placeAt};
 ghost use Rattle.stamp.specs.Scales.{scaleOf, scaleNumber, asked, fixed, offsetsOf, mostSecond, toInstant, instantFor};
 ghost use Rattle.stamp.specs.Parts.{firstOffset, momentIn, momentOf};
 ghost use Rattle.stamp.specs.Back.{inRange, axisCount, shownOf, instantShowing};
@@ -55,7 +56,7 @@ pub enum StampAnswer {
 
 // What a scale shows, in microseconds from year 0 on days of 86,400 seconds.
 pub enum ShownAnswer {
-    Shows(u64),
+    Shown(u64),
     Refused(Refusal),
 }
 
@@ -467,7 +468,7 @@ pub fn shown_of<'a>(
     match moment_of(count, months, offsets, instant, scale) {
         MomentAnswer::In(m) => {
             let p = m.place;
-            ShownAnswer::Shows(1000000 * (86400 * p.start + p.second as u64) + m.micro as u64)
+            ShownAnswer::Shown(1000000 * (86400 * p.start + p.second as u64) + m.micro as u64)
         }
         MomentAnswer::Refused(why) => ShownAnswer::Refused(why),
     }

@@ -27,7 +27,7 @@ use Rattle.pictures.specs.declared.Date.{Date}
 use Rattle.pictures.specs.declared.Date.the-variants.{Numbered, OfYear, Named}
 use Rattle.pictures.specs.declared.Fields.{Fields}
 use Rattle.pictures.specs.declared.FieldsAnswer.{FieldsAnswer}
-use Rattle.pictures.specs.declared.FieldsAnswer.the-variants.{Shows, NoPicture}
+use Rattle.pictures.specs.declared.FieldsAnswer.the-variants.{Picture, NoPicture}
 use Rattle.pictures.specs.Pictures.{fractionText, pictureText, DateFits, WellFormed}
 use Rattle.pictures.specs.Reading.{readFields}
 use Rattle.pictures.proofs.Promise.{shown, back}
@@ -179,7 +179,7 @@ module _ (t : Table) (k : ℕ) (text : List ℕ) where
       go (leb-true k 3 (and-l (leb k 3) _ (p .0))) (search (and-l, and-r)) (readFields text) refl (p .1)
     where
       go : k ≤ 3 → accepted t ≡ true → (a : FieldsAnswer) → readFields text ≡ a → fieldsRead t (scaleOf k) a ≡ Read x z → (z .scale ≡ scaleOf k) × Names t k text x (z .reading)
-      go known good (Shows f) q e = judged f x z known good (shown text f q) e
+      go known good (Picture f) q e = judged f x z known good (shown text f q) e
       go known good NoPicture q e = absurd (no-read x z SHAPE e)
 
   -- the picture of fields
@@ -193,7 +193,7 @@ module _ (t : Table) (k : ℕ) (text : List ℕ) where
   is-shape h = ap (λ (a : TextAnswer). textResults a .0) (none-refused Refused (scaleTests t k) _ (join (le-leb k 3 (h .0)) (join (h .1) refl))) ∙ go (readFields text) refl
     where
       go : (a : FieldsAnswer) → readFields text ≡ a → textResults (fieldsRead t (scaleOf k) a) .0 ≡ 2
-      go (Shows f) q = let s = shown text f q in absurd (h .2 f (s .0) (s .1))
+      go (Picture f) q = let s = shown text f q in absurd (h .2 f (s .0) (s .1))
       go NoPicture q = refl
 
   was-shape : textResults (readText t k text) .0 ≡ 2 → (k ≤ 3) × (accepted t ≡ true) × ((f : Fields) → WellFormed f → text ≡ pictureText f → ⊥)

@@ -21,7 +21,7 @@ use Rattle.pictures.specs.declared.Date.{Date}
 use Rattle.pictures.specs.declared.Date.the-variants.{Numbered, OfYear, Named}
 use Rattle.pictures.specs.declared.Fields.{Fields}
 use Rattle.pictures.specs.declared.FieldsAnswer.{FieldsAnswer}
-use Rattle.pictures.specs.declared.FieldsAnswer.the-variants.{Shows, NoPicture}
+use Rattle.pictures.specs.declared.FieldsAnswer.the-variants.{Picture, NoPicture}
 use Rattle.pictures.specs.Pictures.{pictureText}
 use Rattle.pictures.specs.Reading.{readFields}
 use Rattle.stamp.specs.declared.Scale.{Scale}
@@ -65,7 +65,7 @@ readAnswer t s r = refusing Refused (labelTests (offsetsOf t s) (mostSecond s) r
 
 -- the fields of a text are judged; a text that has no picture is SHAPE
 abbrev pub fieldsRead : Table → Scale → FieldsAnswer → TextAnswer
-fieldsRead t s (Shows f) = readAnswer t s (readingOf f)
+fieldsRead t s (Picture f) = readAnswer t s (readingOf f)
 fieldsRead t s NoPicture = Refused SHAPE
 
 -- `read_text`: what every call asks first, and then the text

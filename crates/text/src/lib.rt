@@ -112,7 +112,7 @@ fn read_on<'a>(
 ) -> TextAnswer
     ensures { λ r. ⌜ r ≡ fieldsRead (tabled count (now (months .entry)) (now (offsets .entry))) scale (readFields (now (text .entry))) ⌝ }
 {
-    let FieldsAnswer::Shows(f) = pictures::read_fields(text) else {
+    let FieldsAnswer::Picture(f) = pictures::read_fields(text) else {
         return TextAnswer::Refused(Refusal::Shape);
     };
     let reading = reading_of(f);

@@ -11,7 +11,7 @@ use Rattle.answer.proofs.Orders.{refused, passed}
 use Rattle.leap.specs.Leap.{tabled}
 use Rattle.stamp.specs.Back.{instantShowing}
 use Rattle.julian.specs.Fraction.{day, isFraction}
-use Rattle.julian.specs.Midnight.{isMidnight, inYears}
+use Rattle.julian.specs.Midnight.{isMidnight, midnightInYears}
 use Rattle.julian.specs.Dates.{microRead}
 use Rattle.julian.proofs.read_in.Statement.{statement}
 use Rattle.julian.proofs.read_in.Tie as tie
@@ -33,7 +33,7 @@ second c = c .before .before
 abbrev begun : tie.Else3 → tie.Start
 begun c = first (second c) .before .before
 
-three : (c : tie.Else3) → inYears (begun c .args .date .midnight) ≡ true
+three : (c : tie.Else3) → midnightInYears (begun c .args .date .midnight) ≡ true
 three c = holds (c .before .in-years .ensures) (c .if3 .left)
 
 -- ---- and where one failed

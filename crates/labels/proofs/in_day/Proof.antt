@@ -1,4 +1,4 @@
-use Rattle.labels.specs.Seconds.{inDay}
+use Rattle.labels.specs.Back.{inDay}
 use borrow.Author.Needs.{needs}
 use Rattle.labels.proofs.in_day.Statement.{statement}
 use Rattle.labels.proofs.in_day.Tie as tie

@@ -1,4 +1,4 @@
-use Rattle.labels.specs.Seconds.{labelOf}
+use Rattle.labels.specs.Back.{labelOf}
 use borrow.Author.Needs.{needs}
 use Rattle.labels.proofs.label_of.Statement.{statement}
 use Rattle.labels.proofs.label_of.Tie as tie

@@ -6,7 +6,7 @@ use Prim.Native.Nat.{ℕ}
 use native.Mathlib.Omega.{arith}
 use borrow.Author.Needs.{needs}
 use Rattle.digits.proofs.Bytes.{placed-as}
-use Rattle.listing.specs.Listing.{header, rows, afterCount, fromCount}
+use Rattle.listing.specs.Listing.{header, rowsFrom, afterCount, fromCount}
 use Rattle.listing.proofs.Judged.{count-most}
 use Rattle.listing.proofs.print_from_count.Statement.{statement}
 use Rattle.listing.proofs.print_from_count.Tie as tie
@@ -27,7 +27,7 @@ returns c =
     let l = k .before .before in
     let s = l .before .before .before in
     let a = s .args in
-    let e = ap (afterCount (λ (n : ℕ). header ++ rows (a .t) n (a .first))) (sym (k .n .given .1) ∙ l .count-line .ensures) in
+    let e = ap (afterCount (λ (n : ℕ). header ++ rowsFrom (a .t) n (a .first))) (sym (k .n .given .1) ∙ l .count-line .ensures) in
     placed-as e (p .print-rows .ensures)
 
 returns-2 : tie.Need-returns-2
@@ -38,7 +38,7 @@ returns-2 c =
     let l = k .before .before in
     let s = l .before .before .before in
     let a = s .args in
-    let e = ap (afterCount (λ (n : ℕ). header ++ rows (a .t) n (a .first))) (sym (k .why .given .1) ∙ l .count-line .ensures) in
+    let e = ap (afterCount (λ (n : ℕ). header ++ rowsFrom (a .t) n (a .first))) (sym (k .why .given .1) ∙ l .count-line .ensures) in
     placed-as e (p .print-refusal .ensures)
 
 pub print-from-count-spec : {M : Type 1} → statement M

@@ -1,7 +1,7 @@
 -- The header, and the lines right after it.
 -- Assumes nothing.
 use borrow.Author.Needs.{needs}
-use Rattle.listing.specs.Listing.{rows}
+use Rattle.listing.specs.Listing.{rowsFrom}
 use Rattle.listing.proofs.Printing.{room-left, after-header}
 use Rattle.listing.proofs.print_rows.Statement.{statement}
 use Rattle.listing.proofs.print_rows.Tie as tie
@@ -18,7 +18,7 @@ returns c =
     let h = p .before .before .before .before in
     let s = h .before .before .before .before in
     let a = s .args in
-    after-header (a .out .now) (a .count) (s .pre .2) (h .append .ensures) (rows (a .t) (a .count) (a .first)) (p .put-rows .ensures)
+    after-header (a .out .now) (a .count) (s .pre .2) (h .append .ensures) (rowsFrom (a .t) (a .count) (a .first)) (p .put-rows .ensures)
 
 pub print-rows-spec : {M : Type 1} → statement M
 print-rows-spec =

@@ -7,7 +7,7 @@ use borrow.Author.Needs.{needs}
 use lib.ListN.{length, take, drop}
 use Rattle.laws.proofs.Branches.{and-rest, fails, holds}
 use Rattle.laws.proofs.Placed.{length-over}
-use Rattle.pictures.specs.Reading.{like, filled, rightLength}
+use Rattle.pictures.specs.Reading.{like, inFull, rightLength}
 use Rattle.pictures.proofs.Patterns.{is-filled, length-most, not-long}
 use Rattle.pictures.proofs.fills.Statement.{statement}
 use Rattle.pictures.proofs.fills.Tie as tie
@@ -23,7 +23,7 @@ module _ (c : tie.Else1) where
   inside = omega (arith, length-most (s .args .n) (length (s .args .text .now)) long, s .pre .1)
 
   -- what a copy of the text leaves
-  full : {t : List ℕ} → t ≡ take (length (s .args .text .now)) (s .args .text .now) ++ drop (length (s .args .text .now)) (s .args .t .now) → t ≡ filled (s .args .pattern .now) (s .args .text .now)
+  full : {t : List ℕ} → t ≡ take (length (s .args .text .now)) (s .args .text .now) ++ drop (length (s .args .text .now)) (s .args .t .now) → t ≡ inFull (s .args .pattern .now) (s .args .text .now)
   full e = is-filled (s .args .pattern .now) (s .args .text .now) (e ∙ ap (λ (l : List ℕ). take (length (s .args .text .now)) (s .args .text .now) ++ drop (length (s .args .text .now)) l) (s .pre .2))
 
 returns : tie.Need-returns

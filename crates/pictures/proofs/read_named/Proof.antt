@@ -5,15 +5,15 @@ use borrow.Author.Needs.{needs}
 use borrow.Author.Tests.{lt-leb, le-leb}
 use Rattle.laws.proofs.Branches.{and-no, and-rest, cond-yes, cond-rest, fails}
 use Rattle.laws.proofs.Cases.{join}
-use Rattle.pictures.specs.declared.FieldsAnswer.the-variants.{Shows}
-use Rattle.pictures.specs.Reading.{filled, namedPattern, monthIn, readNamed}
+use Rattle.pictures.specs.declared.FieldsAnswer.the-variants.{Picture}
+use Rattle.pictures.specs.Reading.{inFull, namedPattern, monthIn, readNamed}
 use Rattle.pictures.proofs.Patterns.{digits-at, numbers-at, has-it, is-full, is-alike, is-short}
 use Rattle.pictures.proofs.read_named.Statement.{statement}
 use Rattle.pictures.proofs.read_named.Tie as tie
 
 -- the month of the text in full
 abbrev named : tie.After-month-named → ℕ
-named c = monthIn (filled namedPattern (c .before .before .before .before .before .before .before .before .before .args .text .now))
+named c = monthIn (inFull namedPattern (c .before .before .before .before .before .before .before .before .before .args .text .now))
 
 month : (c : tie.After-month-named) → c .month-named .result ≡ named c
 month c = c .month-named .ensures ∙ ap monthIn (is-full namedPattern 20 (c .before .before .before .fills .ensures) (c .before .if1 .left))
@@ -37,7 +37,7 @@ returns-3 c =
     let f = e .before .before .fills .ensures in
     let g = is-full namedPattern 20 f (e .if1 .left) in
     let m = month (l .before) in
-    cond-yes _ (join (has-it namedPattern 20 f (e .if1 .left)) (le-leb 1 (named (l .before)) (omega (arith, l .if2 .left)))) (ap Shows (cc))
+    cond-yes _ (join (has-it namedPattern 20 f (e .if1 .left)) (le-leb 1 (named (l .before)) (omega (arith, l .if2 .left)))) (ap Picture (cc))
 
 pub read-named-spec : {M : Type 1} → statement M
 read-named-spec =

@@ -2,7 +2,7 @@ use mathlib.Core.Path.{refl, ap}
 use native.Mathlib.Omega.{arith}
 use borrow.Author.Needs.{needs}
 use Rattle.laws.proofs.Branches.{cond-yes, cond-rest, fails}
-use Rattle.pictures.specs.declared.FieldsAnswer.the-variants.{Shows}
+use Rattle.pictures.specs.declared.FieldsAnswer.the-variants.{Picture}
 use Rattle.pictures.specs.Reading.{ofYearPattern, readOfYear}
 use Rattle.pictures.proofs.Patterns.{digits-at, numbers-at, has-it, is-full, is-alike, is-short}
 use Rattle.pictures.proofs.read_of_year.Statement.{statement}
@@ -18,7 +18,7 @@ returns-2 c =
     let e = c .before .before .before .before .before in
     let f = e .before .before .fills .ensures in
     let g = is-full ofYearPattern 17 f (e .if1 .left) in
-    cond-yes _ (has-it ofYearPattern 17 f (e .if1 .left)) (ap Shows (cc))
+    cond-yes _ (has-it ofYearPattern 17 f (e .if1 .left)) (ap Picture (cc))
 
 pub read-of-year-spec : {M : Type 1} → statement M
 read-of-year-spec =

@@ -2,7 +2,7 @@ use Prim.Native.Nat.{_*_, _<_, _^_}
 use native.Mathlib.Omega.{arith}
 use borrow.Author.Needs.{needs}
 use lib.IntN.{pos, _-ℤ_}
-use Rattle.labels.specs.Seconds.{dayBegins}
+use Rattle.labels.specs.Back.{dayBegins}
 use mir.Syntax.{w64}
 use mir.Val.{SFits}
 use mir.Facts.{toZ-ofZ, toZ-pos, sfits-widen}

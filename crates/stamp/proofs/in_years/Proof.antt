@@ -16,21 +16,21 @@ use Rattle.laws.proofs.Difference.{ltZ-true, ltZ-false, leZ-true, le-leZ}
 use Rattle.leap.specs.Leap.{tabled}
 use Rattle.leap.proofs.Facts.{accepted-to}
 use Rattle.labels.specs.Labels.{Offsets}
-use Rattle.labels.specs.Seconds.{axisAt, axisOf, first, last, inYears}
+use Rattle.labels.specs.Seconds.{axisAt, axisOf, firstReading, lastReading, inYears}
 use Rattle.labels.proofs.Uniform.{first-micro, last-micro}
 use Rattle.stamp.specs.Scales.{offsetsOf}
 use Rattle.stamp.proofs.Scales.{first-offset}
 use Rattle.stamp.proofs.in_years.Statement.{statement}
 use Rattle.stamp.proofs.in_years.Tie as tie
 
-first-is : (c : tie.After-axis-at) → let s = c .before .before in toZ w64 (ofZ w64 (c .axis-at .result)) ≡ axisOf (offsetsOf (tabled (s .args .count) (s .args .months .now) (s .args .offsets .now)) (s .args .scale)) first
+first-is : (c : tie.After-axis-at) → let s = c .before .before in toZ w64 (ofZ w64 (c .axis-at .result)) ≡ axisOf (offsetsOf (tabled (s .args .count) (s .args .months .now) (s .args .offsets .now)) (s .args .scale)) firstReading
 first-is c =
     let s = c .before .before in
     toZ-ofZ (sfits-of (c .axis-at .ok))
     ∙ c .axis-at .ensures
     ∙ ap₂ axisAt (sym first-micro) (toZ-ofZ (sfits-of (c .before .first-offset .ok)) ∙ c .before .first-offset .ensures ∙ first-offset _ (accepted-to _ (s .pre .0)) (s .args .scale))
 
-last-is : (c : tie.After-axis-at2) → let s = c .before .before .before .before in toZ w64 (ofZ w64 (c .axis-at2 .result)) ≡ axisOf (offsetsOf (tabled (s .args .count) (s .args .months .now) (s .args .offsets .now)) (s .args .scale)) last
+last-is : (c : tie.After-axis-at2) → let s = c .before .before .before .before in toZ w64 (ofZ w64 (c .axis-at2 .result)) ≡ axisOf (offsetsOf (tabled (s .args .count) (s .args .months .now) (s .args .offsets .now)) (s .args .scale)) lastReading
 last-is c =
     toZ-ofZ (sfits-of (c .axis-at2 .ok))
     ∙ c .axis-at2 .ensures
@@ -54,7 +54,7 @@ module _ (c : tie.After-axis-at2) where
   o = offsetsOf (tabled (begun .args .count) (begun .args .months .now) (begun .args .offsets .now)) (begun .args .scale)
 
   -- the code's test, of the integers themselves
-  tested : {b : Bool} → ltZ (toZ w64 (begun .args .axis)) (toZ w64 (ofZ w64 (c .before .before .axis-at .result))) ≡ b → ltZ (pos (begun .args .axis)) (axisOf o first) ≡ b
+  tested : {b : Bool} → ltZ (toZ w64 (begun .args .axis)) (toZ w64 (ofZ w64 (c .before .before .axis-at .result))) ≡ b → ltZ (pos (begun .args .axis)) (axisOf o firstReading) ≡ b
   tested e = ap₂ ltZ (sym (axis-is begun)) (sym (first-is (c .before .before))) ∙ e
 
 pub in-years-spec : {M : Type 1} → statement M
@@ -68,6 +68,6 @@ in-years-spec =
     (λ c κs. search needs)
     (λ c. search needs)
     (λ c. let a = c .before in
-    and-no (leZ (pos (begun a .args .axis)) (axisOf (o a) last)) (leZ-no (pos (begun a .args .axis)) (axisOf (o a) first) (tested a (c .if1 .taken))))
+    and-no (leZ (pos (begun a .args .axis)) (axisOf (o a) lastReading)) (leZ-no (pos (begun a .args .axis)) (axisOf (o a) firstReading) (tested a (c .if1 .taken))))
     (λ c. let a = c .before in
-    and-rest (leZ-yes (pos (begun a .args .axis)) (axisOf (o a) first) (tested a (c .if1 .left))) (ap₂ leZ (axis-is (begun a)) (last-is a))))
+    and-rest (leZ-yes (pos (begun a .args .axis)) (axisOf (o a) firstReading) (tested a (c .if1 .left))) (ap₂ leZ (axis-is (begun a)) (last-is a))))

@@ -21,7 +21,8 @@ use Rattle.months.specs.Months.{monthLength}
 use Rattle.labels.specs.declared.Label.{Label}
 use Rattle.labels.specs.declared.Place.{Place}
 use Rattle.labels.specs.Labels.{Offsets, uniform, monthOf, minuteIn, minuteLength}
-use Rattle.labels.specs.Seconds.{microOf, axisAt, first, last, placeAt, labelOf, labelAt, readingAt}
+use Rattle.labels.specs.Seconds.{microOf, axisAt, firstReading, lastReading}
+use Rattle.labels.specs.Back.{placeAt, labelOf, labelAt, readingAt}
 use Rattle.labels.proofs.Facts.{second-no, second-yes}
 use Rattle.labels.proofs.Uniform.{first-micro, last-micro, reading-month, reading-micro}
 use Rattle.stamp.specs.declared.InstantAnswer.the-variants.{At}
@@ -30,11 +31,11 @@ use Rattle.stamp.specs.Back.{instantShowing}
 use Rattle.stamp.proofs.instant_showing.Statement.{statement}
 use Rattle.stamp.proofs.instant_showing.Tie as tie
 
-early : (u : ℕ) → u < 62230291200000000 → (leb (microOf first) u && leb u (microOf last)) ≡ false
-early u h = sym (and-no _ (lt-leb (microOf first) u (omega (arith, first-micro))))
+early : (u : ℕ) → u < 62230291200000000 → (leb (microOf firstReading) u && leb u (microOf lastReading)) ≡ false
+early u h = sym (and-no _ (lt-leb (microOf firstReading) u (omega (arith, first-micro))))
 
-late : (u : ℕ) → 315569519999999999 < u → (leb (microOf first) u && leb u (microOf last)) ≡ false
-late u h = sym (and-rest (le-leb (microOf first) u (omega (arith, first-micro))) (sym (lt-leb u (microOf last) (omega (arith, last-micro)))))
+late : (u : ℕ) → 315569519999999999 < u → (leb (microOf firstReading) u && leb u (microOf lastReading)) ≡ false
+late u h = sym (and-rest (le-leb (microOf firstReading) u (omega (arith, first-micro))) (sym (lt-leb u (microOf lastReading) (omega (arith, last-micro)))))
 
 abbrev start : tie.Else2 → tie.Start
 start c = c .before .before
@@ -55,8 +56,8 @@ module _ (c : tie.Else2) where
   high : u ≤ 315569519999999999
   high = c .if2 .left
 
-  in-time : (leb (microOf first) u && leb u (microOf last)) ≡ true
-  in-time = join (le-leb (microOf first) u (omega (arith, first-micro, low))) (le-leb u (microOf last) (omega (arith, last-micro, high)))
+  in-time : (leb (microOf firstReading) u && leb u (microOf lastReading)) ≡ true
+  in-time = join (le-leb (microOf firstReading) u (omega (arith, first-micro, low))) (le-leb u (microOf lastReading) (omega (arith, last-micro, high)))
 
 abbrev past : tie.After-minute-length → tie.Else2
 past c = c .before .before .before .before .before .before

@@ -15,7 +15,8 @@ use Rattle.leap.specs.declared.Table.{Table}
 use Rattle.leap.specs.Leap.{tabled}
 use Rattle.leap.proofs.Facts.{Accepted, accepted-to}
 use Rattle.labels.specs.declared.Place.{Place}
-use Rattle.labels.specs.Seconds.{inYears, placeAt}
+use Rattle.labels.specs.Seconds.{inYears}
+use Rattle.labels.specs.Back.{placeAt}
 use Rattle.stamp.specs.declared.MomentAnswer.the-variants.{In}
 use Rattle.stamp.specs.Scales.{offsetsOf}
 use Rattle.stamp.specs.Back.{inRange, axisCount}

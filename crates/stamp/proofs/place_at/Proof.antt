@@ -22,7 +22,8 @@ use Rattle.leap.specs.Leap.{tabled}
 use Rattle.leap.proofs.Facts.{accepted-to}
 use Rattle.labels.specs.declared.Place.{Place}
 use Rattle.labels.specs.Labels.{Offsets}
-use Rattle.labels.specs.Seconds.{dayBegins, begins, since, placeIn, placeAt, monthAt, lastMonth}
+use Rattle.labels.specs.Seconds.{lastMonth}
+use Rattle.labels.specs.Back.{dayBegins, begins, since, placeIn, placeAt, monthAt}
 use Rattle.labels.proofs.Falls.{Begun, Covered, guess}
 use Rattle.labels.proofs.Guess.{second-range, guess-most, in-next, next-rest, in-guess, guess-rest, month-is}
 use Rattle.labels.proofs.Years.{covered-to}
