@@ -3,11 +3,11 @@
 use mathlib.Core.Logic.{_↔_}
 use Prim.Native.Nat.{ℕ, _+_}
 use native.Mathlib.Omega.{arith}
-use Rattle.laws.proofs.Difference.{eq-to, eq-from, lt-to, lt-from, suc-is}
 use lib.IntN.{sucℤ}
+use Rattle.laws.proofs.Difference.{eq-to, eq-from, lt-to, lt-from, suc-is}
 use Rattle.leap.specs.declared.Table.{Table}
 use Rattle.leap.specs.Leap.{offsetAt}
-use Rattle.leap.specs.Steps.{StepUp, StepDown, MovesWithEntries}
+use Rattle.leap.specs.Steps.{StepUp, StepDown}
 use Rattle.leap.proofs.Facts.{Accepted}
 use Rattle.leap.proofs.Moves.{near}
 use Rattle.leap.proofs.Steps.{entry-within, moves}

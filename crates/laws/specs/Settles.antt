@@ -25,8 +25,8 @@ pub record Settles {A : Type 0} (asked : Type 0) (allowed : A → Type 0) (outco
   pub allows-it-alone : (a : A) → allowed a ↔ (a ≡ outcome)
 
 -- a call that writes to nothing lent is settled: this is its answer
-abbrev pub Gives : {K A R : Type 0} → (K → A → Type 0) → (K → A → R → A → Type 0) → A → R → Type 0
-Gives {K} pre post arguments answer = (lifetimes : K) → Settles (pre lifetimes arguments) (λ r. post lifetimes arguments r arguments) answer
+abbrev pub Returns : {K A R : Type 0} → (K → A → Type 0) → (K → A → R → A → Type 0) → A → R → Type 0
+Returns {K} pre post arguments answer = (lifetimes : K) → Settles (pre lifetimes arguments) (λ r. post lifetimes arguments r arguments) answer
 
 -- a call that writes to one lent value is settled: its answer, and what it leaves there
 abbrev pub Leaves : {K A E R W : Type 0} → (K → A → Type 0) → (K → A → R → E → Type 0) → A → (W → E) → R × W → Type 0

@@ -2,7 +2,6 @@
 -- Assumes nothing.
 use mathlib.Core.Path.{_≡_, refl, sym, ap, subst, _∙_}
 use mathlib.Core.Logic.{_⊎_, inl, inr, ⊎-elim}
-use mathlib.Core.Bool.{true}
 use Prim.Native.Nat.{ℕ, zero, suc, _+_, _≤_, _<_}
 use native.Mathlib.Numerals.{add-one}
 use native.Mathlib.Omega.{arith}
@@ -10,9 +9,9 @@ use lib.IntN.{ℤ, sucℤ}
 use Rattle.laws.proofs.Cases.{by-order, lt-cases}
 use Rattle.laws.proofs.Difference.{eq-to, suc-is}
 use Rattle.leap.specs.declared.Table.{Table}
-use Rattle.leap.specs.Leap.{lastEntryMonth, entryMonth, entryOffset, accepted, epoch, lastBegun, top, offsetAt}
+use Rattle.leap.specs.Leap.{lastEntryMonth, entryMonth, entryOffset, epoch, lastBegun, top, offsetAt}
 use Rattle.leap.specs.Entries.{entry}
-use Rattle.leap.specs.Steps.{EntryAfter, StepUp, StepDown, MovesWithEntries, AllMove}
+use Rattle.leap.specs.Steps.{EntryAfter, MovesWithEntries, AllMove}
 use Rattle.leap.proofs.Facts.{Later, Accepted, accepted-to}
 use Rattle.leap.proofs.Begun.{begun-all, begun-less, begun-first}
 

@@ -101,10 +101,10 @@ nibble-low b =
     (low (leb 97 b && leb b 102) (λ e. omega (arith, leb-true b 102 (and-r (leb 97 b) _ e))) (omega arith)))
 
 abbrev u32Field : ℕ → Cursor → U32Field
-u32Field v n = record { value = v; endOf = n }
+u32Field v n = record { value = v; next = n }
 
 abbrev i32Field : ℤ → Cursor → I32Field
-i32Field v n = record { value = v; endOf = n }
+i32Field v n = record { value = v; next = n }
 
 pub settled-bytes : SettledBytes
 settled-bytes =

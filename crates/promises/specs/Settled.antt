@@ -18,7 +18,7 @@ use Rattle.text.specs.Text.{readText, writeText, writeTextAfter}
 use Rattle.julian.specs.declared.JulianDate.{JulianDate}
 use Rattle.julian.specs.Dates.{writeJulian, readJulian}
 use Rattle.listing.specs.Listing.{listed}
-use Rattle.laws.specs.Settles.{_&_, Lent, _becomes_, Gives, Leaves}
+use Rattle.laws.specs.Settles.{_&_, Lent, _becomes_, Returns, Leaves}
 use Rattle.leap.proofs.bulletin_c.Reads as leap-bulletin-c
 use Rattle.block.proofs.read_block.Reads as block-read-block
 use Rattle.block.proofs.write_block.Reads as block-write-block
@@ -34,21 +34,21 @@ use Rattle.listing.proofs.list.Reads as listing-list
 
 -- the calls of the scope, and what `ticks` prints for an input
 pub record Settled : Type 0 where
-  pub bulletin-c : Gives leap-bulletin-c.Pre leap-bulletin-c.Post tt bulletinC
-  pub read-block : (s : Lent (List ℕ)) → Gives block-read-block.Pre block-read-block.Post (s & tt) (readBlock (now s))
+  pub bulletin-c : Returns leap-bulletin-c.Pre leap-bulletin-c.Post tt bulletinC
+  pub read-block : (s : Lent (List ℕ)) → Returns block-read-block.Pre block-read-block.Post (s & tt) (readBlock (now s))
   pub write-block : (t : Table) (out : Lent (List ℕ)) →
       Leaves block-write-block.Pre block-write-block.Post (t & out & tt) (λ bytes. t & out becomes bytes & tt)
       (writeBlock t (now out), writeBlockAfter t (now out))
-  pub instant-of : (t : Table) (scale : ℕ) (r : Reading) → Gives stamp-instant-of.Pre stamp-instant-of.Post (t & scale & r & tt) (instantOf t scale r)
-  pub stamp-of : (t : Table) (instant : ℤ) (scale : ℕ) → Gives stamp-stamp-of.Pre stamp-stamp-of.Post (t & instant & scale & tt) (stampOf t instant scale)
-  pub read-text : (t : Table) (scale : ℕ) (text : Lent (List ℕ)) → Gives text-read-text.Pre text-read-text.Post (t & scale & text & tt) (readText t scale (now text))
+  pub instant-of : (t : Table) (scale : ℕ) (r : Reading) → Returns stamp-instant-of.Pre stamp-instant-of.Post (t & scale & r & tt) (instantOf t scale r)
+  pub stamp-of : (t : Table) (instant : ℤ) (scale : ℕ) → Returns stamp-stamp-of.Pre stamp-stamp-of.Post (t & instant & scale & tt) (stampOf t instant scale)
+  pub read-text : (t : Table) (scale : ℕ) (text : Lent (List ℕ)) → Returns text-read-text.Pre text-read-text.Post (t & scale & text & tt) (readText t scale (now text))
   pub write-text : (t : Table) (instant : ℤ) (picture scale digits : ℕ) (out : Lent (List ℕ)) →
       Leaves text-write-text.Pre text-write-text.Post (t & instant & picture & scale & digits & out & tt) (λ bytes. t & instant & picture & scale & digits & out becomes bytes & tt)
       (writeText t instant picture scale digits (now out), writeTextAfter t instant picture scale digits (now out))
-  pub write-julian : (t : Table) (instant : ℤ) (scale : ℕ) → Gives julian-write-julian.Pre julian-write-julian.Post (t & instant & scale & tt) (writeJulian t instant scale)
-  pub read-julian : (t : Table) (scale : ℕ) (date : JulianDate) → Gives julian-read-julian.Pre julian-read-julian.Post (t & scale & date & tt) (readJulian t scale date)
-  pub clock-starts : (t : Table) → Gives clock-start.Pre clock-start.Post (t & tt) (start t)
-  pub clock-ticks : (t : Table) (l : Label) → Gives clock-tick.Pre clock-tick.Post (t & l & tt) (tick t l)
+  pub write-julian : (t : Table) (instant : ℤ) (scale : ℕ) → Returns julian-write-julian.Pre julian-write-julian.Post (t & instant & scale & tt) (writeJulian t instant scale)
+  pub read-julian : (t : Table) (scale : ℕ) (date : JulianDate) → Returns julian-read-julian.Pre julian-read-julian.Post (t & scale & date & tt) (readJulian t scale date)
+  pub clock-starts : (t : Table) → Returns clock-start.Pre clock-start.Post (t & tt) (start t)
+  pub clock-ticks : (t : Table) (l : Label) → Returns clock-tick.Pre clock-tick.Post (t & l & tt) (tick t l)
   pub list : (input out : Lent (List ℕ)) →
       Leaves listing-list.Pre listing-list.Post (input & out & tt) (λ bytes. input & out becomes bytes & tt)
       (written [] (listed (now input)) (now out), bufferAfter [] (listed (now input)) (now out))

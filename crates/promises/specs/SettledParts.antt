@@ -39,7 +39,7 @@ use Rattle.fields.specs.declared.U32Field.{U32Field}
 use Rattle.fields.specs.declared.I32Field.{I32Field}
 use Rattle.fields.specs.Words.{wordAt}
 use Rattle.fields.specs.Fields.{naturalAt, integerAt, hexAt, patternAt}
-use Rattle.laws.specs.Settles.{_&_, Lent, _becomes_, Gives, Leaves}
+use Rattle.laws.specs.Settles.{_&_, Lent, _becomes_, Returns, Leaves}
 use Rattle.answer.proofs.number_of.Reads as answer-number-of
 use Rattle.answer.proofs.write.Reads as answer-write
 use Rattle.digits.proofs.byte_at.Reads as digits-byte-at
@@ -91,22 +91,22 @@ use Rattle.fields.proofs.pattern.Reads as fields-pattern
 
 -- refusals and buffers; months, dates, labels and scales
 pub record SettledParts : Type 0 where
-  pub refusal-number : (why : Refusal) → Gives answer-number-of.Pre answer-number-of.Post (why & tt) (number why)
+  pub refusal-number : (why : Refusal) → Returns answer-number-of.Pre answer-number-of.Post (why & tt) (number why)
   pub write : (bytes out : Lent (List ℕ)) →
       Leaves answer-write.Pre answer-write.Post (bytes & out & tt) (λ after. bytes & out becomes after & tt)
       (written [] (now bytes) (now out), bufferAfter [] (now bytes) (now out))
-  pub refused-at : (why : Refusal) (at : ℕ) → Gives leap-refused-at.Pre leap-refused-at.Post (why & at & tt) (refusedAt why at)
-  pub days-before : (m : ℕ) → Gives months-days-before.Pre months-days-before.Post (m & tt) (daysBefore m)
-  pub month-length : (m : ℕ) → Gives calendar-month-length.Pre calendar-month-length.Post (m & tt) (monthLength m)
-  pub month-of-day : (day : ℕ) → Gives calendar-month-of-day.Pre calendar-month-of-day.Post (day & tt) (spanOfDay day)
-  pub day-of-year : (m day : ℕ) → Gives calendar-day-of-year.Pre calendar-day-of-year.Post (m & day & tt) (dayOfYear m day)
-  pub date-in-year : (year day : ℕ) → Gives calendar-date-in-year.Pre calendar-date-in-year.Post (year & day & tt) (dateInYear year day)
-  pub judge : (most : ℕ) (r : Reading) → Gives labels-judge.Pre labels-judge.Post (most & r & tt) (judged most r)
-  pub in-last-minute : (days : ℕ) (l : Label) → Gives labels-in-last-minute.Pre labels-in-last-minute.Post (days & l & tt) (inLastMinute days l)
-  pub minute-length : (days : ℕ) (here after : ℤ) (l : Label) → Gives labels-minute-length.Pre labels-minute-length.Post (days & here & after & l & tt) (minuteIn days here after l)
-  pub label-of : (p : Place) → Gives labels-label-of.Pre labels-label-of.Post (p & tt) (labelOf p)
-  pub scale-numbered : (k : ℕ) → Gives stamp-scale-numbered.Pre stamp-scale-numbered.Post (k & tt) (scaleOf k)
-  pub scale-number : (s : Scale) → Gives stamp-scale-number.Pre stamp-scale-number.Post (s & tt) (scaleNumber s)
+  pub refused-at : (why : Refusal) (at : ℕ) → Returns leap-refused-at.Pre leap-refused-at.Post (why & at & tt) (refusedAt why at)
+  pub days-before : (m : ℕ) → Returns months-days-before.Pre months-days-before.Post (m & tt) (daysBefore m)
+  pub month-length : (m : ℕ) → Returns calendar-month-length.Pre calendar-month-length.Post (m & tt) (monthLength m)
+  pub month-of-day : (day : ℕ) → Returns calendar-month-of-day.Pre calendar-month-of-day.Post (day & tt) (spanOfDay day)
+  pub day-of-year : (m day : ℕ) → Returns calendar-day-of-year.Pre calendar-day-of-year.Post (m & day & tt) (dayOfYear m day)
+  pub date-in-year : (year day : ℕ) → Returns calendar-date-in-year.Pre calendar-date-in-year.Post (year & day & tt) (dateInYear year day)
+  pub judge : (most : ℕ) (r : Reading) → Returns labels-judge.Pre labels-judge.Post (most & r & tt) (judged most r)
+  pub in-last-minute : (days : ℕ) (l : Label) → Returns labels-in-last-minute.Pre labels-in-last-minute.Post (days & l & tt) (inLastMinute days l)
+  pub minute-length : (days : ℕ) (here after : ℤ) (l : Label) → Returns labels-minute-length.Pre labels-minute-length.Post (days & here & after & l & tt) (minuteIn days here after l)
+  pub label-of : (p : Place) → Returns labels-label-of.Pre labels-label-of.Post (p & tt) (labelOf p)
+  pub scale-numbered : (k : ℕ) → Returns stamp-scale-numbered.Pre stamp-scale-numbered.Post (k & tt) (scaleOf k)
+  pub scale-number : (s : Scale) → Returns stamp-scale-number.Pre stamp-scale-number.Post (s & tt) (scaleNumber s)
 
 -- what is asked of a table whose two arrays are lent
 module _ (count : ℕ) (months : Lent (List ℕ)) (offsets : Lent (List ℤ)) where
@@ -114,20 +114,20 @@ module _ (count : ℕ) (months : Lent (List ℕ)) (offsets : Lent (List ℤ)) wh
   table = tabled count (now months) (now offsets)
 
   pub record SettledTables : Type 0 where
-    pub tabled : Gives leap-tabled.Pre leap-tabled.Post (count & months & offsets & tt) table
-    pub found : Gives leap-found.Pre leap-found.Post (count & months & offsets & tt) (found table)
-    pub is-accepted : Gives leap-is-accepted-in.Pre leap-is-accepted-in.Post (count & months & offsets & tt) (accepted table)
-    pub offset-at : (m : ℕ) → Gives leap-offset-at.Pre leap-offset-at.Post (count & months & offsets & m & tt) (offsetAt table m)
-    pub near : (m : ℕ) → Gives leap-near.Pre leap-near.Post (count & months & offsets & m & tt) (nearAt table m)
-    pub asked : (scale : ℕ) → Gives stamp-asked.Pre stamp-asked.Post (count & months & offsets & scale & tt) (asked table scale)
-    pub instant-in : (s : Scale) (r : Reading) → Gives stamp-instant-in.Pre stamp-instant-in.Post (s & count & months & offsets & r & tt) (instantIn table s r)
-    pub stamp-of : (instant : ℤ) (scale : ℕ) → Gives stamp-stamp-of-in.Pre stamp-stamp-of-in.Post (count & months & offsets & instant & scale & tt) (stampOf table instant scale)
-    pub shown-of : (instant : ℤ) (scale : ℕ) → Gives stamp-shown-of.Pre stamp-shown-of.Post (count & months & offsets & instant & scale & tt) (shownOf table instant scale)
-    pub instant-showing : (s : Scale) (micro : ℕ) → Gives stamp-instant-showing.Pre stamp-instant-showing.Post (s & count & months & offsets & micro & tt) (instantShowing table s micro)
+    pub tabled : Returns leap-tabled.Pre leap-tabled.Post (count & months & offsets & tt) table
+    pub found : Returns leap-found.Pre leap-found.Post (count & months & offsets & tt) (found table)
+    pub is-accepted : Returns leap-is-accepted-in.Pre leap-is-accepted-in.Post (count & months & offsets & tt) (accepted table)
+    pub offset-at : (m : ℕ) → Returns leap-offset-at.Pre leap-offset-at.Post (count & months & offsets & m & tt) (offsetAt table m)
+    pub near : (m : ℕ) → Returns leap-near.Pre leap-near.Post (count & months & offsets & m & tt) (nearAt table m)
+    pub asked : (scale : ℕ) → Returns stamp-asked.Pre stamp-asked.Post (count & months & offsets & scale & tt) (asked table scale)
+    pub instant-in : (s : Scale) (r : Reading) → Returns stamp-instant-in.Pre stamp-instant-in.Post (s & count & months & offsets & r & tt) (instantIn table s r)
+    pub stamp-of : (instant : ℤ) (scale : ℕ) → Returns stamp-stamp-of-in.Pre stamp-stamp-of-in.Post (count & months & offsets & instant & scale & tt) (stampOf table instant scale)
+    pub shown-of : (instant : ℤ) (scale : ℕ) → Returns stamp-shown-of.Pre stamp-shown-of.Post (count & months & offsets & instant & scale & tt) (shownOf table instant scale)
+    pub instant-showing : (s : Scale) (micro : ℕ) → Returns stamp-instant-showing.Pre stamp-instant-showing.Post (s & count & months & offsets & micro & tt) (instantShowing table s micro)
 
 -- bytes: digits, pictures, lines and their fields
 pub record SettledBytes : Type 0 where
-  pub byte-at : (s : Lent (List ℕ)) (i : ℕ) → Gives digits-byte-at.Pre digits-byte-at.Post (s & i & tt) (getD (now s) i 0)
+  pub byte-at : (s : Lent (List ℕ)) (i : ℕ) → Returns digits-byte-at.Pre digits-byte-at.Post (s & i & tt) (getD (now s) i 0)
   pub append : (out : Lent (List ℕ)) (at : ℕ) (text : Lent (List ℕ)) →
       Leaves digits-append.Pre digits-append.Post (out & at & text & tt) (λ after. out becomes after & at & text & tt)
       (endOf (now out) at (now text), appended (now out) at (now text))
@@ -140,32 +140,32 @@ pub record SettledBytes : Type 0 where
   pub append-hex : (out : Lent (List ℕ)) (at : ℕ) (bytes : Lent (List ℕ)) →
       Leaves lines-append-hex.Pre lines-append-hex.Post (out & at & bytes & tt) (λ after. out becomes after & at & bytes & tt)
       (endOf (now out) at (hexShown (now bytes)), appended (now out) at (hexShown (now bytes)))
-  pub decimal : (word : Lent (List ℕ)) (most : ℕ) → Gives digits-decimal.Pre digits-decimal.Post (word & most & tt) (decimalOf most (now word))
-  pub digits : (n : ℕ) → Gives digits-digits.Pre digits-digits.Post (n & tt) (digitsOf 6 n)
-  pub month-name : (month : ℕ) → Gives digits-month-name.Pre digits-month-name.Post (month & tt) (monthName month)
-  pub month-named : (a b c : ℕ) → Gives digits-month-named.Pre digits-month-named.Post (a & b & c & tt) (monthNamed (a ∷ b ∷ c ∷ []))
+  pub decimal : (word : Lent (List ℕ)) (most : ℕ) → Returns digits-decimal.Pre digits-decimal.Post (word & most & tt) (decimalOf most (now word))
+  pub digits : (n : ℕ) → Returns digits-digits.Pre digits-digits.Post (n & tt) (digitsOf 6 n)
+  pub month-name : (month : ℕ) → Returns digits-month-name.Pre digits-month-name.Post (month & tt) (monthName month)
+  pub month-named : (a b c : ℕ) → Returns digits-month-named.Pre digits-month-named.Post (a & b & c & tt) (monthNamed (a ∷ b ∷ c ∷ []))
   pub write-fields : (f : Fields) (out : Lent (List ℕ)) →
       Leaves pictures-write-fields.Pre pictures-write-fields.Post (f & out & tt) (λ after. f & out becomes after & tt)
       (written [] (pictureText f) (now out), bufferAfter [] (pictureText f) (now out))
-  pub read-fields : (text : Lent (List ℕ)) → Gives pictures-read-fields.Pre pictures-read-fields.Post (text & tt) (readFields (now text))
-  pub until : (s : Lent (List ℕ)) (from b : ℕ) → Gives lines-until.Pre lines-until.Post (s & from & b & tt) (from + length (before b (drop from (now s))))
-  pub front : (s : Lent (List ℕ)) (n : ℕ) → Gives lines-front.Pre lines-front.Post (s & n & tt) (min n (length (now s)))
-  pub hex-digit : (b : ℕ) → Gives lines-hex-digit.Pre lines-hex-digit.Post (b & tt) (nibble b)
+  pub read-fields : (text : Lent (List ℕ)) → Returns pictures-read-fields.Pre pictures-read-fields.Post (text & tt) (readFields (now text))
+  pub until : (s : Lent (List ℕ)) (from b : ℕ) → Returns lines-until.Pre lines-until.Post (s & from & b & tt) (from + length (before b (drop from (now s))))
+  pub front : (s : Lent (List ℕ)) (n : ℕ) → Returns lines-front.Pre lines-front.Post (s & n & tt) (min n (length (now s)))
+  pub hex-digit : (b : ℕ) → Returns lines-hex-digit.Pre lines-hex-digit.Post (b & tt) (nibble b)
   pub hex : (word out : Lent (List ℕ)) →
       Leaves lines-hex.Pre lines-hex.Post (word & out & tt) (λ after. word & out becomes after & tt)
       (hexOf (length (now out)) (now word), hexInto (now out) (now word))
-  pub ended : (line : Lent (List ℕ)) (c : Cursor) → Gives fields-ended.Pre fields-ended.Post (line & c & tt) (c .fine && eqb (c .at) (length (now line)))
-  pub number-field : (line : Lent (List ℕ)) (c : Cursor) (most : ℕ) → Gives fields-number-field.Pre fields-number-field.Post (line & c & most & tt) (naturalAt most (now line) c)
+  pub ended : (line : Lent (List ℕ)) (c : Cursor) → Returns fields-ended.Pre fields-ended.Post (line & c & tt) (c .fine && eqb (c .at) (length (now line)))
+  pub number-field : (line : Lent (List ℕ)) (c : Cursor) (most : ℕ) → Returns fields-number-field.Pre fields-number-field.Post (line & c & most & tt) (naturalAt most (now line) c)
   pub u32-field : (line : Lent (List ℕ)) (c : Cursor) →
-      Gives {R = U32Field} fields-u32-field.Pre fields-u32-field.Post (line & c & tt)
-      (record { value = naturalAt (2 ^ 32 - 1) (now line) c .value; endOf = naturalAt (2 ^ 32 - 1) (now line) c .next })
-  pub i64-field : (line : Lent (List ℕ)) (c : Cursor) → Gives fields-i64-field.Pre fields-i64-field.Post (line & c & tt) (integerAt (2 ^ 63 - 1) (now line) c)
+      Returns {R = U32Field} fields-u32-field.Pre fields-u32-field.Post (line & c & tt)
+      (record { value = naturalAt (2 ^ 32 - 1) (now line) c .value; next = naturalAt (2 ^ 32 - 1) (now line) c .next })
+  pub i64-field : (line : Lent (List ℕ)) (c : Cursor) → Returns fields-i64-field.Pre fields-i64-field.Post (line & c & tt) (integerAt (2 ^ 63 - 1) (now line) c)
   pub i32-field : (line : Lent (List ℕ)) (c : Cursor) →
-      Gives {R = I32Field} fields-i32-field.Pre fields-i32-field.Post (line & c & tt)
-      (record { value = integerAt (2 ^ 31 - 1) (now line) c .value; endOf = integerAt (2 ^ 31 - 1) (now line) c .next })
+      Returns {R = I32Field} fields-i32-field.Pre fields-i32-field.Post (line & c & tt)
+      (record { value = integerAt (2 ^ 31 - 1) (now line) c .value; next = integerAt (2 ^ 31 - 1) (now line) c .next })
   pub hex-field : (line : Lent (List ℕ)) (c : Cursor) (out : Lent (List ℕ)) →
       Leaves fields-hex-field.Pre fields-hex-field.Post (line & c & out & tt) (λ after. line & c & out becomes after & tt)
       (hexAt (length (now out)) (now line) c, hexInto (now out) (wordAt (now line) (c .at)))
-  pub pattern-field : (line : Lent (List ℕ)) (c : Cursor) → Gives fields-pattern-field.Pre fields-pattern-field.Post (line & c & tt) (patternAt (now line) c)
-  pub double : (bits : ℕ) → Gives fields-double.Pre fields-double.Post (bits & tt) (ofBits binary64 bits)
-  pub pattern : (x : Float) → Gives fields-pattern.Pre fields-pattern.Post (x & tt) (toBits binary64 x)
+  pub pattern-field : (line : Lent (List ℕ)) (c : Cursor) → Returns fields-pattern-field.Pre fields-pattern-field.Post (line & c & tt) (patternAt (now line) c)
+  pub double : (bits : ℕ) → Returns fields-double.Pre fields-double.Post (bits & tt) (ofBits binary64 bits)
+  pub pattern : (x : Float) → Returns fields-pattern.Pre fields-pattern.Post (x & tt) (toBits binary64 x)
