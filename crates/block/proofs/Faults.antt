@@ -13,7 +13,7 @@ use Rattle.answer.specs.declared.Refusal.the-variants.{Cut as CUT, Groups as GR
 use Rattle.answer.specs.Refusals.{refusing}
 use Rattle.answer.proofs.Orders.{refusing-map}
 use Rattle.leap.specs.Entries.{Entry, firstEntry}
-use Rattle.leap.specs.Readers.{Outcome, entered, fault, joined}
+use Rattle.leap.specs.Outcomes.{Outcome, entered, fault, joined}
 use Rattle.block.specs.declared.NumberAnswer.{NumberAnswer}
 use Rattle.block.specs.declared.NumberAnswer.the-variants.{Number, Cut, Groups}
 use Rattle.block.specs.Faults.{marks, numberSize, numberValue, someLast, shortest, numberTests, countFine, gapFine, Fault, noFault, faultAt, faultFrom, firstFault}

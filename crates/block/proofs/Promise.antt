@@ -17,7 +17,8 @@ use Rattle.answer.proofs.Orders.{number-some, numbers-differ}
 use Rattle.leap.specs.declared.Table.{Table}
 use Rattle.leap.specs.Leap.{lastEntryMonth, accepted}
 use Rattle.leap.specs.Entries.{Entry, firstEntry, entriesFrom, entries, tableOf, Good}
-use Rattle.leap.specs.Readers.{noTable, tableResults, Outcome, entered, fault, joined, tableRead}
+use Rattle.leap.specs.Readers.{noTable, tableResults}
+use Rattle.leap.specs.Outcomes.{Outcome, entered, fault, joined, tableRead}
 use Rattle.leap.proofs.Facts.{Later, same-entry, accepted-to}
 use Rattle.leap.proofs.Entries.{Follow, from-long, entries-of, table-is, accepted-entries, accepted-of}
 use Rattle.leap.proofs.Readers.{was-entered}

@@ -14,7 +14,8 @@ use borrow.Author.Tests.{ltb-true, leb-true, eq-eqb, ne-eqb}
 use Rattle.answer.specs.declared.Refusal.the-variants.{Table as TABLE, Tail as TAIL}
 use Rattle.leap.specs.Leap.{lastEntryMonth, tabled}
 use Rattle.leap.specs.Entries.{Entry, firstEntry, noEntry}
-use Rattle.leap.specs.Readers.{found, Outcome, fault, joined, tableRead}
+use Rattle.leap.specs.Readers.{found}
+use Rattle.leap.specs.Outcomes.{Outcome, fault, joined, tableRead}
 use Rattle.leap.proofs.Entries.{Holds, holds-at, holds-more, holds-table}
 use Rattle.leap.proofs.Readers.{after-after}
 use Rattle.laws.proofs.Cases.{both}

@@ -10,7 +10,7 @@ use lib.ListN.{length, drop}
 use Rattle.answer.specs.declared.Refusal.the-variants.{Cut as CUT, Groups as GROUPS, Table as TABLE, Tail as TAIL}
 use Rattle.leap.specs.declared.TableRead.{TableRead}
 use Rattle.leap.specs.Entries.{Entry, firstEntry}
-use Rattle.leap.specs.Readers.{Outcome, entered, fault, joined, tableRead}
+use Rattle.leap.specs.Outcomes.{Outcome, entered, fault, joined, tableRead}
 use Rattle.block.specs.declared.NumberAnswer.{NumberAnswer}
 use Rattle.block.specs.declared.NumberAnswer.the-variants.{Number, Cut, Groups}
 use Rattle.block.specs.Faults.{countFine, gapFine}

@@ -9,7 +9,7 @@ ghost use lib.Seq.{sets};
 ghost use lib.Signed.{mag};
 ghost use Rattle.leap.specs.Leap.{lastEntryMonth, tabled, accepted};
 ghost use Rattle.leap.specs.Entries.{firstEntry};
-ghost use Rattle.leap.specs.Readers.{tableRead};
+ghost use Rattle.leap.specs.Outcomes.{tableRead};
 ghost use Rattle.block.specs.Numbers.{numberBytes};
 ghost use Rattle.block.specs.Blocks.{stepNumber, blockOf, writeBlock, writeBlockAfter};
 ghost use Rattle.block.specs.Faults.{countFine, gapFine};

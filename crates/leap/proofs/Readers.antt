@@ -6,7 +6,8 @@ use Prim.Native.Nat.{ℕ}
 use Rattle.answer.proofs.Orders.{number-some}
 use Rattle.leap.specs.declared.Table.{Table}
 use Rattle.leap.specs.Entries.{Entry, tableOf}
-use Rattle.leap.specs.Readers.{noTable, tableResults, Outcome, entered, fault, joined, tableRead}
+use Rattle.leap.specs.Readers.{noTable, tableResults}
+use Rattle.leap.specs.Outcomes.{Outcome, entered, fault, joined, tableRead}
 
 pub after-none : (o : Outcome) → joined [] o ≡ o
 after-none (entered es) = refl

@@ -1,6 +1,5 @@
 -- What a reader of tables answers: the table that it found, or a refusal with its place and an all-zero table.
 -- Assumes nothing.
-use mathlib.Core.List.{List, _++_}
 use Prim.Native.Nat.{ℕ}
 use lib.IntN.{pos}
 use lib.ListN.{replicate}
@@ -11,13 +10,12 @@ use Rattle.leap.specs.declared.TableAnswer.{TableAnswer}
 use Rattle.leap.specs.declared.TableAnswer.the-variants.{Read, Refused}
 use Rattle.leap.specs.declared.TableRead.{TableRead}
 use Rattle.leap.specs.Leap.{tabled}
-use Rattle.leap.specs.Entries.{Entry, tableOf}
 
--- ---- the answers
-
+-- the all-zero table
 abbrev pub noTable : Table
 noTable = tabled 0 (replicate 64 0) (replicate 64 (pos 0))
 
+-- the answer with a table, and the answer of a refusal with its place
 abbrev pub found : Table → TableRead
 found t = record { answer = Read; table = t }
 
@@ -31,19 +29,3 @@ tableResults r = (numberAndPlace (r .answer) .0, numberAndPlace (r .answer) .1, 
     numberAndPlace : TableAnswer → ℕ × ℕ
     numberAndPlace Read = (0, 0)
     numberAndPlace (Refused why at) = (number why, at)
-
--- ---- by entries
-
--- what bytes hold: the entries of a table, or a fault and its place
-pub data Outcome : Type 0 where
-  entered : List Entry → Outcome
-  fault : Refusal → ℕ → Outcome
-
--- with these entries before those that the rest holds
-abbrev pub joined : List Entry → Outcome → Outcome
-joined es (entered fs) = entered (es ++ fs)
-joined es (fault why at) = fault why at
-
-abbrev pub tableRead : Outcome → TableRead
-tableRead (entered es) = found (tableOf es)
-tableRead (fault why at) = refusedAt why at

@@ -4,7 +4,7 @@ use mathlib.Core.Path.{_≡_, sym, ap, _∙_}
 use denote.Ref.{now}
 use borrow.Author.Needs.{needs}
 use Rattle.laws.proofs.Branches.{fails, holds}
-use Rattle.leap.specs.Readers.{tableRead}
+use Rattle.leap.specs.Outcomes.{tableRead}
 use Rattle.block.specs.declared.NumberAnswer.the-variants.{Number}
 use Rattle.block.specs.Reading.{readNumber}
 use Rattle.block.proofs.Numbers.{read-within}

@@ -15,7 +15,7 @@ use denote.Ref.{now}
 use borrow.Author.Needs.{needs}
 use Rattle.laws.proofs.Branches.{fails, holds}
 use Rattle.leap.specs.Entries.{firstEntry}
-use Rattle.leap.specs.Readers.{Outcome, tableRead}
+use Rattle.leap.specs.Outcomes.{Outcome, tableRead}
 use Rattle.leap.proofs.Readers.{after-none}
 use Rattle.block.specs.Reading.{readNumber, nextOffset, readEntries}
 use Rattle.block.specs.declared.NumberAnswer.the-variants.{Number}
