@@ -1,4 +1,5 @@
--- The calls: what a text is read as, and what is written for an instant.
+-- The calls: what a text is read as, and what is written for an instant. Exactly what they give is `ReadExactly` and `WrittenExactly` of Promise, by `readingOf`,
+-- `readAnswer` and `textOf` alone: `fieldsRead`, which has the reader's steps, and `textAt`, which has the way back to a stamp, need not be believed.
 -- Assumes nothing.
 use mathlib.Core.Bool.{Bool, cond, _&&_}
 use mathlib.Core.List.{List, [], _∷_}
