@@ -17,7 +17,7 @@ use Rattle.leap.specs.Entries.{Entry, firstEntry, noEntry}
 use Rattle.leap.specs.Readers.{found}
 use Rattle.leap.specs.Outcomes.{Outcome, fault, joined, tableRead}
 use Rattle.leap.proofs.Entries.{Holds, holds-at, holds-more, holds-table}
-use Rattle.leap.proofs.Readers.{after-after}
+use Rattle.leap.proofs.Readers.{joined-twice}
 use Rattle.laws.proofs.Cases.{both}
 use Rattle.block.specs.declared.NumberAnswer.{NumberAnswer}
 use Rattle.block.specs.declared.NumberAnswer.the-variants.{Number}
@@ -89,7 +89,7 @@ module _ {s : List ℕ} {whole : Outcome} {count : ℕ} {months : List ℕ} {off
           rw (month-is, offset-is) (record {
             prior = h .prior ++ h .last ∷ [];
             last = nextEntry (h .last) n;
-            goes = rw (g, after-after, drop-drop size at s) at (on-answer e);
+            goes = rw (g, joined-twice, drop-drop size at s) at (on-answer e);
             holds = holds-more (h .holds) (nextEntry (h .last) n) size-is (omega (arith, h .few));
             sized = size-is;
             inside = l;

@@ -1,4 +1,4 @@
--- The night desk's Julian row, the scope's midnights, and doubles that are easily read otherwise.
+-- The scope's midnights, and doubles that are easily read otherwise.
 -- Assumes nothing.
 use mathlib.Core.Path.{_≡_}
 use mathlib.Core.Bool.{true, false}
@@ -6,15 +6,12 @@ use Prim.Native.Nat.{_+_}
 use lib.IntN.{pos, negsuc}
 use lib.Ieee.{fin, binary64, ofBits}
 use Rattle.months.specs.Months.{daysBefore}
-use Rattle.leap.specs.Leap.{epoch, bulletinC}
+use Rattle.leap.specs.Leap.{epoch}
 use Rattle.labels.specs.Seconds.{lastMonth}
-use Rattle.julian.specs.Fraction.{fractionOf, isFraction, microsOf}
+use Rattle.julian.specs.Fraction.{day, fractionOf, isFraction, microsOf}
 use Rattle.julian.specs.Midnight.{midnightOf, isMidnight, firstMidnight, lastMidnight}
-use Rattle.julian.specs.Dates.{writeJulian, julianResults}
 
 pub record Desk : Type 0 where
-  -- instant 0 on TAI: 2451544.5 and 0.5
-  pub julian-row : julianResults (writeJulian bulletinC (pos 0) 1) ≡ (0, record { midnight = fin false 4903089 (negsuc 0); fraction = fin false 1 (negsuc 0) })
   -- the fraction of midnight is +0.0
   pub midnight-zero : fractionOf 0 ≡ fin false 0 (pos 0)
   -- 1972-01-01 and 9999-12-31
@@ -24,6 +21,8 @@ pub record Desk : Type 0 where
   pub tie : microsOf (fin false 1 (negsuc 13)) ≡ 5273438
   -- 0x1.b26c2e8aee24fp-3 is 18,327,202,812.49999.. microseconds; its product in doubles would round up
   pub no-tie : microsOf (ofBits binary64 0x3fcb_26c2_e8ae_e24f) ≡ 18327202812
+  -- the largest double below 1 is nearest to the whole day, which is the next midnight
+  pub whole-day : microsOf (ofBits binary64 0x3fef_ffff_ffff_ffff) ≡ day
   -- minus zero, the sign's bit alone, is a fraction; minus the smallest double and 1 are none
   pub minus-zero-is : ofBits binary64 0x8000_0000_0000_0000 ≡ fin true 0 (pos 0)
   pub minus-zero : isFraction (fin true 0 (pos 0)) ≡ true

@@ -9,7 +9,7 @@ use Rattle.laws.proofs.Cases.{join}
 use Rattle.laws.proofs.Difference.{up, down, sum-is, eq-from}
 use Rattle.answer.proofs.Orders.{none-refused}
 use Rattle.leap.specs.declared.Table.{Table}
-use Rattle.leap.specs.Leap.{accepted, offsetAt}
+use Rattle.leap.specs.Leap.{accepted, offsetAt, epoch}
 use Rattle.leap.proofs.Facts.{accepted-to}
 use Rattle.leap.proofs.Moves.{at-first}
 use Rattle.labels.specs.declared.Label.{Label}
@@ -36,7 +36,7 @@ module _ (t : Table) (ok : accepted t ≡ true) (n : ℕ) (l : Label) (e : Shows
       let ten = at-first t (accepted-to t ok) in
       ap (toInstant Utc) (all-tick t ok .keeps-the-seconds n l e)
       ∙ eq-from (toInstant Utc a) (secondsOn n)
-      (omega (arith, to-instant-is Utc a, sum-is (axisOf (offsetAt t) firstReading) (pos (1000000 * n)), axis-is (microOf firstReading) (offsetAt t 23664), first-micro, ap up ten, ap down ten, sum-is (negℤ (pos 883655990000000)) (pos (1000000 * n))))
+      (omega (arith, to-instant-is Utc a, sum-is (axisOf (offsetAt t) firstReading) (pos (1000000 * n)), axis-is (microOf firstReading) (offsetAt t epoch), first-micro, ap up ten, ap down ten, sum-is (negℤ (pos 883655990000000)) (pos (1000000 * n))))
 
   back : GivesInstant t 0 (whole l) (secondsOn n)
   unfolding instantOf

@@ -11,7 +11,7 @@ use Rattle.laws.proofs.Machine.{times-is}
 use Rattle.months.specs.Months.{daysBefore}
 use Rattle.months.proofs.Laws.{length-again, days-again, days-split, days-1972}
 use Rattle.leap.specs.declared.Table.{Table}
-use Rattle.leap.specs.Leap.{accepted, offsetAt}
+use Rattle.leap.specs.Leap.{accepted, offsetAt, epoch}
 use Rattle.leap.proofs.Facts.{accepted-to}
 use Rattle.leap.proofs.Moves.{at-first}
 use Rattle.labels.specs.declared.Reading.{Reading}
@@ -66,7 +66,7 @@ module _ (t : Table) (r : Reading) where
 first-instant : (t : Table) → accepted t ≡ true → instantFor t Utc firstReading ≡ negℤ (pos (1000000 * 883655990))
 first-instant t ok =
     let ten = at-first t (accepted-to t ok) in
-    eq-from (instantFor t Utc firstReading) (negℤ (pos (1000000 * 883655990))) (omega (arith, instant-is Utc (microOf firstReading) (offsetAt t 23664), first-micro, ap up ten, ap down ten))
+    eq-from (instantFor t Utc firstReading) (negℤ (pos (1000000 * 883655990))) (omega (arith, instant-is Utc (microOf firstReading) (offsetAt t epoch), first-micro, ap up ten, ap down ten))
 
 pub constants : Constants
 constants =

@@ -40,7 +40,7 @@ use Rattle.text.specs.Text.{readingOf, fieldsRead, textOf, textAt, readText, te
 use Rattle.text.proofs.Exactly.{reads-as}
 use Rattle.text.proofs.Writing.{stamp-of-reading}
 use Rattle.julian.specs.Dates.{writeJulian, julianResults}
-use Rattle.julian.proofs.Desk.{desk}
+use Rattle.julian.proofs.Desk.{julian-row}
 use Rattle.promises.specs.Worked.{reads, writes, writes-not, rows, furtherRows, tableIn, Right, AllRight, Worked}
 
 -- ---- the tables of the desk's blocks
@@ -116,7 +116,7 @@ proved-set = (quick is-B _ _, (quick is-T _ _, (quick is-T _ _, (quick is-N _ _,
 
 further-rows : AllRight furtherRows
 unfolding eqZ allBelow leapYear monthLength daysBefore oneApart placeRight accepted lastBegun offsetAt lastMinute minuteIn realYear realMonth realDay realClock hasSecond toInstant axisAt like readNumbered readOfYear readNamed digitValue spelled
-further-rows = (quick is-B _ _, (written-noon, (quick is-B _ _, (refused-early, (ap (λ (t : Table). julianResults (writeJulian t (pos 0) 1)) is-B ∙ desk .julian-row, tt)))))
+further-rows = (quick is-B _ _, (written-noon, (quick is-B _ _, (refused-early, (ap (λ (t : Table). julianResults (writeJulian t (pos 0) 1)) is-B ∙ julian-row, tt)))))
 
 pub worked : Worked
 worked = record { named-blocks = named-right; proved-set = proved-set; further-rows = further-rows }

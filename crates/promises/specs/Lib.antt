@@ -4,7 +4,7 @@ pub mod SettledInC
 pub mod SettledParts
 pub mod Orders
 pub mod Constants
-pub mod Refused
+pub mod Writers
 pub mod Stamps
 pub mod Text
 pub mod Blocks

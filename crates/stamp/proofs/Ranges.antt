@@ -12,7 +12,7 @@ use Rattle.laws.proofs.Machine.{one-side, natAbs-is}
 use Rattle.laws.proofs.Offsets.{Steps}
 use Rattle.leap.specs.declared.Table.{Table}
 use Rattle.leap.proofs.Facts.{Accepted}
-use Rattle.labels.specs.Seconds.{inYears}
+use Rattle.labels.specs.Seconds.{inYears, firstMonth, lastMonth}
 use Rattle.labels.proofs.Years.{Between, years-to}
 use Rattle.stamp.specs.declared.Scale.{Scale}
 use Rattle.stamp.specs.Scales.{fixed, offsetsOf, toAxis}
@@ -36,7 +36,7 @@ module _ (t : Table) (acc : Accepted t) (sc : Scale) (x : ℤ) where
   bounds : inRange t sc x ≡ true → (down x ≤ up x + 63000000000000000) × (up x ≤ 300000000000000000 + down x)
   bounds e =
       let st = steps t acc sc in
-      omega (arith, between e, to-axis-is sc x, fixed-small sc, st .low 23664, st .low 119999, one-side (toAxis sc x))
+      omega (arith, between e, to-axis-is sc x, fixed-small sc, st .low firstMonth, st .low lastMonth, one-side (toAxis sc x))
 
   pub too-early : up x + 63000000000000000 < down x → inRange t sc x ≡ false
   too-early h = by-test (inRange t sc x) (λ e. absurd (omega (arith, bounds e))) (λ e. e)

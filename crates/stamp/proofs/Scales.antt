@@ -11,7 +11,7 @@ use Rattle.leap.specs.declared.Table.{Table}
 use Rattle.leap.proofs.Facts.{Accepted}
 use Rattle.leap.proofs.Moves.{at-first, steps-by-months}
 use Rattle.labels.specs.declared.Label.{Label}
-use Rattle.labels.specs.Seconds.{axisAt}
+use Rattle.labels.specs.Seconds.{axisAt, firstMonth}
 use Rattle.labels.proofs.Years.{axis-is}
 use Rattle.labels.proofs.Exists.{Exists, second-few, second-uniform}
 use Rattle.stamp.specs.declared.Scale.{Scale}
@@ -27,7 +27,7 @@ steps t acc Tai = uniform-steps
 steps t acc Tdt = uniform-steps
 steps t acc Gps = uniform-steps
 
-pub first-offset : (t : Table) → Accepted t → (s : Scale) → firstOffset s ≡ offsetsOf t s 23664
+pub first-offset : (t : Table) → Accepted t → (s : Scale) → firstOffset s ≡ offsetsOf t s firstMonth
 first-offset t acc Utc = sym (at-first t acc)
 first-offset t acc Tai = refl
 first-offset t acc Tdt = refl

@@ -16,7 +16,7 @@ use borrow.Author.Needs.{needs}
 use Rattle.laws.proofs.Branches.{fails, holds}
 use Rattle.leap.specs.Entries.{firstEntry}
 use Rattle.leap.specs.Outcomes.{Outcome, tableRead}
-use Rattle.leap.proofs.Readers.{after-none}
+use Rattle.leap.proofs.Readers.{joined-none}
 use Rattle.block.specs.Reading.{readNumber, nextOffset, readEntries}
 use Rattle.block.specs.declared.NumberAnswer.the-variants.{Number}
 use Rattle.block.proofs.Reading.{Reading, month-early, offset-is, on-number, on-answer, on-fault, on-entry, on-tail, on-end}
@@ -77,7 +77,7 @@ read-entries-spec =
     -- array-set-of-offsets
     (λ c. lit< tt)
     -- loop-holds
-    (λ c. let h = c .before .pre in record { prior = []; last = firstEntry; goes = after-none _; holds = record { months-are = refl; offsets-are = refl }; sized = refl; inside = h .1; few = h .2; placed = h .0; early = lit≤ tt; near = lit≤ tt })
+    (λ c. let h = c .before .pre in record { prior = []; last = firstEntry; goes = joined-none _; holds = record { months-are = refl; offsets-are = refl }; sized = refl; inside = h .1; few = h .2; placed = h .0; early = lit≤ tt; near = lit≤ tt })
     -- add-loop
     (λ c. omega arith)
     -- read-number-requires

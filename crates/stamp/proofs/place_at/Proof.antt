@@ -49,7 +49,7 @@ module _ (c : tie.Start) where
   range : (128 ≤ s) × (s ≤ 400000000000)
   range = second-range o st s covered
 
-  most : guess s ≤ 119999
+  most : guess s ≤ lastMonth
   most = guess-most o st s covered
 
 -- the month of 128 seconds before
