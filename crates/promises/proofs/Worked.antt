@@ -18,6 +18,7 @@ use Rattle.digits.specs.Months.{amongMonths, monthNamed}
 use Rattle.leap.specs.declared.Table.{Table}
 use Rattle.leap.specs.Leap.{bulletinC, oneApart, placeRight, accepted, lastBegun, offsetAt}
 use Rattle.leap.proofs.BulletinC.{bulletin-accepted}
+use Rattle.labels.specs.declared.Reading.{Reading}
 use Rattle.labels.specs.Labels.{at, labelTests, lastMinute, minuteIn, realYear, realMonth, realDay, realClock, hasSecond}
 use Rattle.labels.specs.Seconds.{axisAt, inYears}
 use Rattle.labels.proofs.Uniform.{first-micro}
@@ -25,7 +26,8 @@ use Rattle.stamp.specs.declared.Scale.{Scale}
 use Rattle.stamp.specs.declared.Stamp.{Stamp}
 use Rattle.stamp.specs.Scales.{scaleOf, scaleTests, offsetsOf, mostSecond, toInstant, toAxis}
 use Rattle.stamp.specs.Back.{inRange, stampAt}
-use Rattle.stamp.specs.Promise.{stamp}
+use Rattle.stamp.specs.Promise.{Reads, stamp}
+use Rattle.stamp.proofs.Promise.{in-range-reads, reads-stamp}
 use Rattle.stamp.proofs.Cycles.{quickInstant, quick-instant}
 use Rattle.block.specs.Desk.{blockB, blockT, blockN, tableT, tableN}
 use Rattle.block.specs.Reading.{readGroups, readEntries, inBlock}
@@ -38,7 +40,6 @@ use Rattle.text.specs.declared.TextAnswer.{TextAnswer}
 use Rattle.text.specs.declared.TextAnswer.the-variants.{Read, Refused}
 use Rattle.text.specs.Text.{readingOf, fieldsRead, textOf, textAt, readText, textResults}
 use Rattle.text.proofs.Exactly.{reads-as}
-use Rattle.text.proofs.Writing.{stamp-of-reading}
 use Rattle.julian.specs.Dates.{writeJulian, julianResults}
 use Rattle.julian.proofs.Desk.{julian-row}
 use Rattle.promises.specs.Worked.{reads, writes, writes-not, rows, furtherRows, tableIn, Right, AllRight, Worked}
@@ -89,9 +90,14 @@ end-of-2016 =
 -- ---- rows that are written
 
 -- the last microsecond before 2000-01-01 12:00:00 is in range, and has this stamp
-noon : (inRange bulletinC (scaleOf 1) (negℤ (pos 1)) ≡ true) × (stampAt bulletinC (scaleOf 1) (negℤ (pos 1)) ≡ stamp (scaleOf 1) (at 2000 1 1 11 59 59 999999))
+abbrev noon-reading : Reading
+noon-reading = at 2000 1 1 11 59 59 999999
+
+noon : (inRange bulletinC (scaleOf 1) (negℤ (pos 1)) ≡ true) × (stampAt bulletinC (scaleOf 1) (negℤ (pos 1)) ≡ stamp (scaleOf 1) noon-reading)
 unfolding leapYear monthLength daysBefore lastMinute minuteIn realYear realMonth realDay realClock hasSecond toInstant axisAt
-noon = stamp-of-reading bulletinC bulletin-accepted 1 refl (at 2000 1 1 11 59 59 999999) (negℤ (pos 1)) (record { is-admitted = refl; instant-is = quick-instant bulletinC (scaleOf 1) (at 2000 1 1 11 59 59 999999) })
+noon =
+    let r : Reads bulletinC (scaleOf 1) noon-reading (negℤ (pos 1)) = record { is-admitted = refl; instant-is = quick-instant bulletinC (scaleOf 1) noon-reading } in
+    (in-range-reads bulletinC bulletin-accepted (scaleOf 1) (negℤ (pos 1)) .1 (noon-reading, r), reads-stamp bulletinC bulletin-accepted (scaleOf 1) noon-reading (negℤ (pos 1)) r)
 
 text-before-noon : textAt bulletinC (negℤ (pos 1)) 0 1 0 ≡ ascii "2000-01-01T11:59:59"
 unfolding pictureText

@@ -15,9 +15,8 @@ use Rattle.stamp.specs.declared.InstantAnswer.{InstantAnswer}
 use Rattle.stamp.specs.declared.InstantAnswer.the-variants.{At, Refused}
 use Rattle.stamp.specs.declared.StampAnswer.{StampAnswer}
 use Rattle.stamp.specs.declared.StampAnswer.the-variants.{Stamped, Refused as NoStamp}
-use Rattle.stamp.specs.Scales.{scaleOf, scaleTests, offsetsOf, mostSecond}
-pub use Rattle.stamp.specs.Scales.{instantFor}
-pub use Rattle.stamp.specs.Back.{inRange, axisCount, stampAt, shownOf, showingTests, instantShowing}
+use Rattle.stamp.specs.Scales.{scaleOf, scaleTests, offsetsOf, mostSecond, instantFor}
+use Rattle.stamp.specs.Back.{inRange, stampAt}
 
 -- ---- the instant of a stamp
 

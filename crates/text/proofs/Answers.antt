@@ -27,7 +27,7 @@ use Rattle.stamp.specs.Stamps.{instantIn, stampOf}
 use Rattle.stamp.specs.Back.{inRange, stampAt}
 use Rattle.stamp.specs.Promise.{Reads, stamp}
 use Rattle.labels.proofs.Admitted.{admitted-to}
-use Rattle.stamp.proofs.Promise.{instant-given, instant-back}
+use Rattle.stamp.proofs.Promise.{stamp-reads}
 use Rattle.text.specs.declared.TextAnswer.{TextAnswer}
 use Rattle.text.specs.declared.TextAnswer.the-variants.{Read, Refused}
 use Rattle.text.specs.Parts.{Plain}
@@ -59,12 +59,8 @@ module _ {A : Type 0} (refuse : Refusal → A) (a : A) where
 
 -- ---- the reading of a stamp
 
--- the reading of an instant's stamp is admitted and stands for the instant
-pub stamp-reads : (t : Table) (k : ℕ) (x : ℤ) {z : Stamp} → stampOf t x k ≡ Stamped z → Reads t (scaleOf k) (z .reading) x
-stamp-reads t k x {z} e = instant-given t k (z .reading) x (instant-back t k z x e .1) .1 .1
-
 pub stamp-plain : (t : Table) (k : ℕ) (x : ℤ) {z : Stamp} → stampOf t x k ≡ Stamped z → Plain (z .reading .label)
 stamp-plain t k x {z} e =
-    let a = admitted-to (offsetsOf t (scaleOf k)) (mostSecond (scaleOf k)) (z .reading) (stamp-reads t k x e .is-admitted) in
+    let a = admitted-to (offsetsOf t (scaleOf k)) (mostSecond (scaleOf k)) (z .reading) (stamp-reads t k x z e .1 .is-admitted) in
     let r = a .exists in
     record { year = a .until-9999; month-low = r .month-low; month-high = r .month-high; day = omega (arith, length-most (monthOf (z .reading .label)), r .day-high) }

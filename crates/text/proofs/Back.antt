@@ -29,10 +29,11 @@ use Rattle.stamp.proofs.Scales.{instant-is}
 use Rattle.stamp.proofs.Ranges.{range-count}
 use Rattle.pictures.specs.Pictures.{dateText, clockText, pictureText}
 use Rattle.text.specs.Text.{dateAs, textOf, readText, textResults, writeText, writeTextAfter}
+use Rattle.stamp.proofs.Promise.{in-range-reads, reads-stamp}
 use Rattle.text.specs.Promise.{Known, AcceptedAs, Names, WrittenExactly, Showable, Latest, Back}
 use Rattle.pictures.proofs.Fraction.{fraction-cut}
 use Rattle.text.proofs.Exactly.{read-exactly}
-use Rattle.text.proofs.Writing.{stamp-of-reading, written-exactly}
+use Rattle.text.proofs.Writing.{written-exactly}
 
 -- ---- a reading cut to its first digits
 
@@ -133,12 +134,10 @@ module _ (t : Table) (k : ℕ) (x : ℤ) (p d : ℕ) (buffer : List ℕ) (n : �
   last w s h =
       let good = known .a-table in
       let acc = accepted-to t good in
-      let b = stamp-of-reading t good k (le-leb k 3 (known .a-scale)) (s .reading) w (s .reads) in
-      let b′ = stamp-of-reading t good k (le-leb k 3 (known .a-scale)) r x reads in
-      let m : axisCount sc w % 1000000 ≡ s .reading .micro = ap (λ (z : Stamp). z .reading .micro) (b .1) in
-      let m′ : axisCount sc x % 1000000 ≡ r .micro = ap (λ (z : Stamp). z .reading .micro) (b′ .1) in
-      let a = range-count t acc sc w (b .0) in
-      let c = range-count t acc sc x (b′ .0) in
+      let m : axisCount sc w % 1000000 ≡ s .reading .micro = ap (λ (z : Stamp). z .reading .micro) (reads-stamp t good sc (s .reading) w (s .reads)) in
+      let m′ : axisCount sc x % 1000000 ≡ r .micro = ap (λ (z : Stamp). z .reading .micro) (reads-stamp t good sc r x reads) in
+      let a = range-count t acc sc w (in-range-reads t good sc w .1 (s .reading, s .reads)) in
+      let c = range-count t acc sc x (in-range-reads t good sc x .1 (r, reads)) in
       let l = subst (λ (u : ℕ). axisCount sc w + u % 10 ^ (6 - d) ≤ axisCount sc x) m′ (last-count d (axisCount sc w) (axisCount sc x) (known .a-number) (rw m (s .enough)) (omega (arith, integers))) in
       le-from w y (omega (arith, apart))
 

@@ -18,28 +18,15 @@ use Rattle.answer.specs.Buffers.{roomLast, writtenResults}
 use Rattle.answer.proofs.Orders.{none-refused}
 use Rattle.leap.specs.declared.Table.{Table}
 use Rattle.leap.specs.Leap.{accepted}
+use Rattle.leap.proofs.Facts.{accepted-to}
 use Rattle.labels.specs.declared.Reading.{Reading}
-use Rattle.labels.specs.Labels.{labelTests}
 use Rattle.stamp.specs.declared.Stamp.{Stamp}
-use Rattle.stamp.specs.declared.InstantAnswer.the-variants.{At, Refused as InstantRefused}
-use Rattle.stamp.specs.declared.StampAnswer.the-variants.{Refused as StampRefused}
-use Rattle.stamp.specs.Scales.{scaleOf, offsetsOf, mostSecond}
-use Rattle.stamp.specs.Stamps.{instantOf, stampOf}
+use Rattle.stamp.specs.Scales.{scaleOf}
 use Rattle.stamp.specs.Back.{inRange, stampAt}
-use Rattle.stamp.specs.Promise.{Reads, stamp}
-use Rattle.stamp.proofs.Promise.{stamp-given, stamp-back}
+use Rattle.stamp.specs.Promise.{Reads}
+use Rattle.stamp.proofs.Promise.{back-reads, in-range-reads, reads-stamp}
 use Rattle.text.specs.Text.{textOf, writeTests, textAt, writeText, writeTextAfter}
 use Rattle.text.specs.Promise.{Known, WrittenExactly}
-use Rattle.text.proofs.Answers.{stamp-reads}
-
--- the stamp of an instant that a reading stands for is that reading
-pub stamp-of-reading : (t : Table) → accepted t ≡ true → (k : ℕ) → leb k 3 ≡ true → (r : Reading) (x : ℤ) → Reads t (scaleOf k) r x → (inRange t (scaleOf k) x ≡ true) × (stampAt t (scaleOf k) x ≡ stamp (scaleOf k) r)
-unfolding instantOf
-stamp-of-reading t good k known r x q =
-    let e : instantOf t k r ≡ At x =
-    none-refused InstantRefused ((leb k 3, ASK) ∷ (accepted t, TABLE) ∷ []) _ (join known (join good refl))
-    ∙ none-refused InstantRefused (labelTests (offsetsOf t (scaleOf k)) (mostSecond (scaleOf k)) r) _ (q .is-admitted) ∙ ap At (q .instant-is) in
-    stamp-given t k x (stamp (scaleOf k) r) (stamp-back t k r x e) .1 .1
 
 -- ---- which of a call's four tests decides
 
@@ -96,15 +83,14 @@ module _ (t : Table) (k : ℕ) (x : ℤ) (p d : ℕ) (buffer : List ℕ) where
 
   -- in range the stamp's reading has the instant
   has-reading : Known t k p d → range ≡ true → Reads t (scaleOf k) (stampAt t (scaleOf k) x .reading) x
-  unfolding stampOf
-  has-reading a e = stamp-reads t k x (none-refused StampRefused ((leb k 3, ASK) ∷ (accepted t, TABLE) ∷ (inRange t (scaleOf k) x, RANGE) ∷ []) _ (join (le-leb k 3 (a .a-scale)) (join (a .a-table) (join e refl))))
+  has-reading a e = back-reads t (accepted-to t (a .a-table)) (scaleOf k) x e
 
   module _ (a : Known t k p d) (r : Reading) (h : Reads t (scaleOf k) r x) where
     in-range : range ≡ true
-    in-range = stamp-of-reading t (a .a-table) k (le-leb k 3 (a .a-scale)) r x h .0
+    in-range = in-range-reads t (a .a-table) (scaleOf k) x .1 (r, h)
 
     its-text : text ≡ textOf p d r
-    its-text = ap (λ (z : Stamp). textOf p d (z .reading)) (stamp-of-reading t (a .a-table) k (le-leb k 3 (a .a-scale)) r x h .1)
+    its-text = ap (λ (z : Stamp). textOf p d (z .reading)) (reads-stamp t (a .a-table) (scaleOf k) r x h)
 
     fits : length (textOf p d r) ≤ length buffer → allPass (roomLast (writeTests t x p k d) text buffer) ≡ true
     fits l = join (asks a) (join (a .a-table) (join in-range (join (le-leb (length text) (length buffer) (omega (arith, ap length its-text))) refl)))
