@@ -14,6 +14,7 @@ use Rattle.answer.specs.declared.Refusal.{Refusal}
 use Rattle.answer.specs.Refusals.{number}
 use Rattle.answer.specs.Buffers.{writtenResults}
 use Rattle.answer.proofs.Orders.{number-some, numbers-differ}
+use Rattle.answer.proofs.Promise.{writer}
 use Rattle.leap.specs.declared.Table.{Table}
 use Rattle.leap.specs.Leap.{lastEntryMonth, accepted}
 use Rattle.leap.specs.Entries.{Entry, firstEntry, entriesFrom, entries, tableOf, Good}
@@ -25,7 +26,7 @@ use Rattle.leap.proofs.Readers.{was-entered}
 use Rattle.block.specs.declared.NumberAnswer.{NumberAnswer}
 use Rattle.block.specs.declared.NumberAnswer.the-variants.{Number, Cut, Groups}
 use Rattle.block.specs.Numbers.{numberBytes}
-use Rattle.block.specs.Blocks.{stepNumber, stepBytes, blockOf, writeBlock}
+use Rattle.block.specs.Blocks.{stepNumber, stepBytes, blockOf, tests, writeBlock, writeBlockAfter}
 use Rattle.block.specs.Faults.{countFine, gapFine, noFault, faultAt}
 use Rattle.block.specs.Reading.{readNumber, nextEntry, onNumber, readEntries, inBlock, readBlock}
 use Rattle.block.specs.Promise.{Bytes, GivesTable, OneToOne, ReadsBlock, WritesBlock, Blocks}
@@ -207,6 +208,9 @@ writes t buffer = go (accepted t) (leb (length (blockOf t)) (length buffer)) ref
     other : {m n : ℕ} {l : ℕ} → writtenResults (writeBlock t buffer) ≡ (m, l) → writtenResults (writeBlock t buffer) ≡ (n, 0) → m ≡ n
     other p q = ap (λ x. x .0) (sym p ∙ q)
 
+    keeps : (writtenResults (writeBlock t buffer) .0 ≡ 0 → ⊥) → writeBlockAfter t buffer ≡ buffer
+    keeps = writer (tests t) (blockOf t) buffer .or-nothing
+
     go : (a b : Bool) → accepted t ≡ a → leb (length (blockOf t)) (length buffer) ≡ b → WritesBlock t buffer
     go true true p q =
         let is : writtenResults (writeBlock t buffer) ≡ (0, length (blockOf t)) = rw (p, q) in
@@ -214,6 +218,7 @@ writes t buffer = go (accepted t) (leb (length (blockOf t)) (length buffer)) ref
           where-it-fits = λ a l. (is, rw (p, q));
           room = (λ e. let z = other is e in absurd (omega arith), λ h. absurd (omega (arith, leb-true (length (blockOf t)) (length buffer) q)));
           table = (λ e. let z = other is e in absurd (omega arith), λ h. let z : _≡_ {A = ℕ} 0 1 = cc in absurd (omega arith));
+          or-nothing = keeps;
         }
     go true false p q =
         let is : writtenResults (writeBlock t buffer) ≡ (1, 0) = rw (p, q) in
@@ -221,6 +226,7 @@ writes t buffer = go (accepted t) (leb (length (blockOf t)) (length buffer)) ref
           where-it-fits = λ a l. absurd (omega (arith, leb-false (length (blockOf t)) (length buffer) q));
           room = (λ e. (p, leb-false (length (blockOf t)) (length buffer) q), λ h. is);
           table = (λ e. let z = other is e in absurd (omega arith), λ h. let z : _≡_ {A = ℕ} 0 1 = cc in absurd (omega arith));
+          or-nothing = keeps;
         }
     go false b p q =
         let is : writtenResults (writeBlock t buffer) ≡ (11, 0) = rw p in
@@ -228,6 +234,7 @@ writes t buffer = go (accepted t) (leb (length (blockOf t)) (length buffer)) ref
           where-it-fits = λ a l. let z : _≡_ {A = ℕ} 0 1 = cc in absurd (omega arith);
           room = (λ e. let z = other is e in absurd (omega arith), λ h. let a = h .0 in let z : _≡_ {A = ℕ} 0 1 = cc in absurd (omega arith));
           table = (λ e. p, λ h. is);
+          or-nothing = keeps;
         }
 
 pub blocks : Blocks

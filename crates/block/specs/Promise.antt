@@ -49,6 +49,8 @@ pub record WritesBlock (t : Table) (buffer : List ℕ) : Type 0 where
   -- ROOM exactly when it is longer than the buffer, TABLE exactly when the table is not accepted
   pub room : (writtenResults (writeBlock t buffer) ≡ (1, 0)) ↔ ((accepted t ≡ true) × (length buffer < length (blockOf t)))
   pub table : (writtenResults (writeBlock t buffer) ≡ (11, 0)) ↔ (accepted t ≡ false)
+  -- a refusal leaves every byte of the buffer
+  pub or-nothing : (writtenResults (writeBlock t buffer) .0 ≡ 0 → ⊥) → writeBlockAfter t buffer ≡ buffer
 
 pub record Blocks : Type 0 where
   pub one-to-one : OneToOne

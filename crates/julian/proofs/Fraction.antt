@@ -2,8 +2,8 @@
 -- Assumes nothing.
 use mathlib.Core.Path.{_≡_, refl, sym, ap, _∙_}
 use mathlib.Core.Bool.{true, false, true≢false}
-use Prim.Native.Nat.{ℕ, suc, _+_, _-_, _*_, _/_, _^_, _≤_, _<_}
-use native.Mathlib.Nat.{suc-mul, le-trans, le-of-eq, le-of-lt, lt-of-lt-of-le, lt-of-le-of-lt, mul-comm, mul-assoc, mul-left-comm, mul-right-comm, mul-le-mul-right, mul-lt-mul-of-pos-right, mul-pos, div-lt-iff-lt-mul, add-mul, le-of-mul-le-mul-right, div-eq-of-lt-le}
+use Prim.Native.Nat.{ℕ, suc, _+_, _-_, _*_, _/_, _%_, _^_, _≤_, _<_}
+use native.Mathlib.Nat.{suc-mul, le-trans, le-of-eq, le-of-lt, lt-of-lt-of-le, lt-of-le-of-lt, mul-comm, mul-assoc, mul-left-comm, mul-right-comm, mul-le-mul-right, mul-lt-mul-of-pos-right, mul-pos, div-lt-iff-lt-mul, add-mul, le-of-mul-le-mul-right, div-eq-of-lt-le, mod-lt, div-add-mod'}
 use native.Mathlib.Omega.{arith}
 use lib.IntN.{pos}
 use lib.Dec.{T, lt→ltb, lit≤, lit<}
@@ -18,6 +18,7 @@ use lib.Ieee.Order.{drop, kept, le-of-values}
 use lib.Ieee.Scale.{grid, overflow, round-val, round-same}
 use lib.Ieee.Positive.{num, den, den-pos, value→cross}
 use Rattle.julian.specs.Fraction.{day, fractionOf, isFraction, microsOf, Close}
+use Rattle.julian.specs.Promise.{Nearest}
 use Rattle.julian.proofs.Rounding.{closest-near}
 
 -- ---- one division is one rounding of the exact fraction
@@ -109,6 +110,15 @@ comes-back us h =
     let x = fractionOf us in
     let c = close us h in
     nearest us (num x * day) (den x) (den-pos x) (quarter (num x * day) (us * den x) (den x) (c .above)) (quarter (us * den x) (num x * day) (den x) (c .under))
+
+-- what is read is nearest to any double, a tie to the later
+pub read-nearest : (x : Float) → Nearest x (microsOf x)
+unfolding microsOf
+read-nearest x =
+    let d = den x in
+    let a : ℕ = 2 * (num x * day) + d in
+    let some : 0 < 2 * d = omega (arith, den-pos x) in
+    omega (arith, div-add-mod' a (2 * d), mod-lt a some, mul-left-comm (a / (2 * d)) 2 d)
 
 -- ---- and it is a fraction
 

@@ -22,7 +22,7 @@ use Rattle.julian.specs.declared.JulianAnswer.the-variants.{Dated}
 use Rattle.julian.specs.Fraction.{day, isFraction, microsOf}
 use Rattle.julian.specs.Dates.{julianResults, microRead, readJulian}
 use Rattle.julian.specs.Promise.{Writes, ReadAs, InAddedSecond, Near, Pairs}
-use Rattle.julian.proofs.Fraction.{close, fraction-fine}
+use Rattle.julian.proofs.Fraction.{close, fraction-fine, read-nearest}
 use Rattle.julian.proofs.Midnight.{midnight-value}
 use Rattle.julian.proofs.Dates.{at-pair, Given, write-given, write-from, given-by, range-given, range-from, read-given, read-from, plain-back, given-admitted, given-few}
 use Rattle.julian.proofs.Refusals.{number-given, number-from, range-given as read-range-given, range-from as read-range-from, second-given, second-from}
@@ -90,6 +90,7 @@ module _ (t : Table) where
           λ e. let g = second-given t k p e in (leb-true k 3 (g .0), g .1, g .2, g .3, g .4),
           λ g. second-from t k p (le-leb k 3 (g .0)) (g .1) (g .2) (g .3) (g .4),
         );
+        read-nearest = read-nearest;
         minus-zero = minus-zero t;
         uniform-comes-back = λ x k p h w. let g = given k x p w in back k x p (g .0) (g .1) (omega (arith, given-admitted t k x p (g .0) (g .1) .on-clock .second-most, most-uniform k h));
         utc-comes-back = λ x p h w.

@@ -4,11 +4,12 @@
 use mathlib.Core.Path.{_≡_}
 use mathlib.Core.Logic.{_↔_}
 use mathlib.Core.Bool.{true, false, _&&_}
-use Prim.Native.Nat.{ℕ, _+_, _*_, _/_, _%_, _≤_}
+use Prim.Native.Nat.{ℕ, _+_, _*_, _/_, _%_, _≤_, _<_}
 use lib.Dec.{leb}
 use lib.IntN.{ℤ, pos, _+ℤ_}
 use lib.Ieee.{Float, fin}
 use lib.Ieee.Exact.{HasValue}
+use lib.Ieee.Positive.{num, den}
 use Rattle.leap.specs.declared.Table.{Table}
 use Rattle.leap.specs.Leap.{accepted}
 use Rattle.labels.specs.declared.Reading.{Reading}
@@ -18,7 +19,7 @@ use Rattle.stamp.specs.Scales.{scaleOf}
 use Rattle.stamp.specs.Stamps.{instantResults}
 use Rattle.stamp.specs.Promise.{Reads}
 use Rattle.julian.specs.declared.JulianDate.{JulianDate}
-use Rattle.julian.specs.Fraction.{day, isFraction, Close}
+use Rattle.julian.specs.Fraction.{day, isFraction, microsOf, Close}
 use Rattle.julian.specs.Midnight.{isMidnight, midnightInYears}
 use Rattle.julian.specs.Dates.{pairOf, writeJulian, julianResults, microRead, readJulian}
 
@@ -52,6 +53,10 @@ pub record Stands (t : Table) (k : ℕ) (p : JulianDate) (x : ℤ) : Type 0 wher
   pub not-added : reading .label .second ≤ 59
   pub shows : microOf reading ≡ microRead p
 
+-- u is the microsecond nearest to x days, a tie to the later
+abbrev pub Nearest : Float → ℕ → Type 0
+Nearest x u = (2 * (u * den x) ≤ 2 * (num x * day) + den x) × (2 * (num x * day) < 2 * (u * den x) + den x)
+
 -- UTC shows a second 60 at the instant
 abbrev pub InAddedSecond : Table → ℤ → Type 0
 InAddedSecond t x = (r : Reading) × Reads t Utc r x × (r .label .second ≡ 60)
@@ -71,6 +76,7 @@ pub record Pairs (t : Table) : Type 0 where
   pub read-range : (k : ℕ) (p : JulianDate) → ReadRefused t k p 7 ↔ ((k ≤ 3) × (accepted t ≡ true) × ((isMidnight (p .midnight) && isFraction (p .fraction)) ≡ true) × ((midnightInYears (p .midnight) && leb (microRead p) (microOf lastReading)) ≡ false))
   -- NOSECOND, 6: it is in these years, and no reading shows it
   pub read-no-second : (k : ℕ) (p : JulianDate) → ReadRefused t k p 6 ↔ ((k ≤ 3) × (accepted t ≡ true) × IsPair p × (microRead p ≤ microOf lastReading) × ((x : ℤ) → Stands t k p x → ⊥))
+  pub read-nearest : (x : Float) → Nearest x (microsOf x)
   -- minus zero is read as zero
   pub minus-zero : (k : ℕ) (m : Float) → readJulian t k (record { midnight = m; fraction = fin true 0 (pos 0) }) ≡ readJulian t k (record { midnight = m; fraction = fin false 0 (pos 0) })
   -- on the scales 1 to 3 every instant comes back exactly, and on UTC every one outside added seconds

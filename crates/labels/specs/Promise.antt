@@ -15,10 +15,10 @@ abbrev pub hasLabel : Offsets → Label → Bool
 hasLabel o l = admitted o 60 (whole l)
 
 -- year, month and day
-abbrev pub Date : Type 0
-Date = ℕ × (ℕ × ℕ)
+abbrev pub Day : Type 0
+Day = ℕ × (ℕ × ℕ)
 
-abbrev pub date : Label → Date
+abbrev pub date : Label → Day
 date l = (l .year, (l .month, l .day))
 
 -- the label's date is one of 1972 to 9999
@@ -34,7 +34,7 @@ abbrev pub atEnd : ℕ → ℕ → Label
 atEnd m s = label (m / 12) (m % 12 + 1) (monthLength m) 23 59 s
 
 -- a day of n seconds: its labels, counted by hours, minutes and seconds, are the numbers below n, each once
-pub record HasSeconds (o : Offsets) (day : Date) (n : ℕ) : Type 0 where
+pub record HasSeconds (o : Offsets) (day : Day) (n : ℕ) : Type 0 where
   pub none-past : (l : Label) → date l ≡ day → hasLabel o l ≡ true → timeOfDay l < n
   pub every-one : (s : ℕ) → s < n → (l : Label) × ((date l ≡ day) × ((hasLabel o l ≡ true) × (timeOfDay l ≡ s)))
   pub once : (k l : Label) → date k ≡ day → date l ≡ day → hasLabel o k ≡ true → hasLabel o l ≡ true → timeOfDay k ≡ timeOfDay l → k ≡ l

@@ -1,6 +1,6 @@
 -- What `ticks` reads is enough: a good line within reach is cut alike, and a long one is long either way.
 -- Assumes nothing.
-use mathlib.Core.Path.{_≡_, refl, sym, ap, _∙_}
+use mathlib.Core.Path.{_≡_, refl, sym, ap, ap₂, _∙_}
 use mathlib.Core.Bool.{Bool, true, false, cond}
 use mathlib.Core.List.{List, [], _∷_}
 use Prim.Native.Nat.{ℕ, zero, suc, _+_, _-_, _≤_, _<_}
@@ -20,7 +20,8 @@ use Rattle.text.specs.declared.TextAnswer.{TextAnswer}
 use Rattle.text.specs.declared.TextAnswer.the-variants.{Read, Refused as NotRead}
 use Rattle.lines.specs.Words.{before}
 use Rattle.listing.specs.Listing.{lineOf, blockLine, stampLine, countLine, refusalText, afterBlock, afterStamp, fromCount, fromStamp, fromBlock, listed}
-use Rattle.listing.specs.Promise.{EnoughRead}
+use Rattle.listing.specs.Promise.{Listings}
+use Rattle.listing.proofs.Row.{tai-column}
 
 -- ---- a line of an input that is cut after n bytes
 
@@ -104,6 +105,15 @@ first-cut n s h =
     cut (λ line more. fromBlock line (before 10 more) (before 10 (rest more))) (λ line more far. long-block line (before 10 more) (before 10 (rest more)) far) n s (omega arith)
     (λ near. block-same _ _ (blockLine (before 10 s) .table) (blockLine (before 10 s) .answer) (λ t. second-cut t (n - (length (before 10 s) + 1)) (rest s) (omega arith)))
 
-pub enough-read : EnoughRead
+enough-read : (input : List ℕ) → listed (take 3075 input) ≡ listed input
 unfolding listed lineOf
 enough-read input = first-cut 3075 input (omega arith)
+
+three-lines : (r s : List ℕ) → lineOf r 0 ≡ lineOf s 0 → lineOf r 1 ≡ lineOf s 1 → lineOf r 2 ≡ lineOf s 2 → listed r ≡ listed s
+unfolding listed
+three-lines r s a b c = ap₂ (λ x y. fromBlock x y (lineOf r 2)) a b ∙ ap (fromBlock (lineOf s 0) (lineOf s 1)) c
+
+-- ---- all of it
+
+pub listings : Listings
+listings = record { tai-column = tai-column; three-lines = three-lines; enough-read = enough-read }

@@ -48,6 +48,13 @@ pub picture-size : (r : Reading) → length (textOf 0 0 r) ≡ 19
 unfolding pictureText
 picture-size r = refl
 
+pub tai-column : (t : Table) (l : Label) → pos 1000000 *ℤ taiSecond t l ≡ instantFor t Utc (whole l)
+unfolding taiSecond
+tai-column t l =
+    let y : ℤ = pos (secondOf l) +ℤ offsetAt t (monthOf l) in
+    eq-from (pos 1000000 *ℤ (y -ℤ pos 63113947200)) (instantFor t Utc (whole l))
+    (omega (arith, instant-is Utc (microOf (whole l)) (offsetAt t (monthOf l)), times-is 1000000 (y -ℤ pos 63113947200), diff-is y (pos 63113947200), sum-is (pos (secondOf l)) (offsetAt t (monthOf l))))
+
 module _ (t : Table) (l : Label) (good : accepted t ≡ true) (there : admits t l ≡ true) where
   pub has-instant : instantOf t 0 (whole l) ≡ At (instantFor t Utc (whole l))
   unfolding instantOf
@@ -60,15 +67,9 @@ module _ (t : Table) (l : Label) (good : accepted t ≡ true) (there : admits t 
 
   module _ {x : ℤ} (e : instantOf t 0 (whole l) ≡ At x) where
     pub tai-is : quotZ x (pos 1000000) ≡ taiSecond t l
-    unfolding taiSecond
     tai-is =
         let q : x ≡ instantFor t Utc (whole l) = cc has-instant in
-        let z : ℤ = (pos (secondOf l) +ℤ offsetAt t (monthOf l)) -ℤ pos 63113947200 in
-        let y : ℤ = pos (secondOf l) +ℤ offsetAt t (monthOf l) in
-        let w : instantFor t Utc (whole l) ≡ pos 1000000 *ℤ z =
-        eq-from (instantFor t Utc (whole l)) (pos 1000000 *ℤ z)
-        (omega (arith, instant-is Utc (microOf (whole l)) (offsetAt t (monthOf l)), times-is 1000000 z, diff-is y (pos 63113947200), sum-is (pos (secondOf l)) (offsetAt t (monthOf l)))) in
-        ap (λ y. quotZ y (pos 1000000)) (q ∙ w) ∙ millions z
+        ap (λ y. quotZ y (pos 1000000)) (q ∙ sym (tai-column t l)) ∙ millions (taiSecond t l)
 
     -- the picture written to a buffer of its size
     pub picture-is : (buffer : List ℕ) → length buffer ≡ 19 → writeTextAfter t x 0 0 0 buffer ≡ textOf 0 0 (whole l)

@@ -13,7 +13,11 @@ answers =
       a-table-in-c = refl;
       minus-one-in-c = refl;
       table-and-words = undone;
+      stamp-and-numbers = λ z. (refl, refl);
+      label-and-numbers = λ l. refl;
       zero-in-the-rest = λ why. record { writing = refl; an-instant = refl; a-stamp = refl; a-label = refl; a-text = refl; a-pair = refl; a-block = λ place. refl; a-block-in-c = λ place. refl };
+      success-as-it-is =
+          record { writing = λ n. refl; an-instant = λ x. refl; a-stamp = λ z. refl; a-label = λ l. refl; a-text = λ x z. refl; a-pair = λ p. refl; a-block = λ t. refl };
       numbers-differ = numbers-differ;
       none-is-success = number-some;
     }

@@ -21,7 +21,7 @@ use Rattle.labels.proofs.Years.{days-last}
 use Rattle.labels.proofs.Uniform.{first-micro}
 use Rattle.stamp.specs.declared.Scale.{Scale}
 use Rattle.stamp.specs.declared.Scale.the-variants.{Utc, Tai, Tdt, Gps}
-use Rattle.stamp.specs.Scales.{fixed, offsetsOf, instantFor}
+use Rattle.stamp.specs.Scales.{fixed, offsetsOf, instantFor, scaleOf, scaleNumber}
 use Rattle.stamp.proofs.Scales.{instant-is}
 use Rattle.julian.specs.Midnight.{midnightOf}
 use Rattle.julian.proofs.Midnight.{midnight-value}
@@ -68,6 +68,12 @@ first-instant t ok =
     let ten = at-first t (accepted-to t ok) in
     eq-from (instantFor t Utc firstReading) (negℤ (pos (1000000 * 883655990))) (omega (arith, instant-is Utc (microOf firstReading) (offsetAt t epoch), first-micro, ap up ten, ap down ten))
 
+scales-numbered : (s : Scale) → scaleOf (scaleNumber s) ≡ s
+scales-numbered Utc = refl
+scales-numbered Tai = refl
+scales-numbered Tdt = refl
+scales-numbered Gps = refl
+
 pub constants : Constants
 constants =
     record {
@@ -76,6 +82,8 @@ constants =
       tdt = tdt;
       gps = gps;
       utc = utc;
+      scale-numbers = (refl, (refl, (refl, refl)));
+      scales-numbered = scales-numbered;
       first-instant = first-instant;
       january-1972 = (refl, (refl, refl));
       december-9999 = (refl, (refl, refl));

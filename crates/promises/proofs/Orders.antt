@@ -67,7 +67,7 @@ use Rattle.julian.specs.Fraction.{isFraction}
 use Rattle.julian.specs.Midnight.{isMidnight, midnightInYears, dayNumber}
 use Rattle.julian.specs.Dates.{writeJulian, julianResults, pairTests, microRead, readJulian}
 use Rattle.julian.proofs.Years.{years}
-use Rattle.promises.specs.Orders.{verdict, Verdicts, realMonthDay, withinLabels, instantOfTests, realAsShown, readTextTests, instantTests, writeTextTests, readJulianTests, ShownBy, startTests, isLast, tickTests, Orders, GivenExactly}
+use Rattle.promises.specs.Orders.{verdict, Verdicts, realMonthDay, withinLabels, instantOfTests, realAsShown, readTextTests, instantTests, writeTextTests, readJulianTests, ShownBy, startTests, isLast, tickTests, Orders, GivenExactly, EveryCall}
 
 -- ---- lists of tests
 
@@ -266,7 +266,7 @@ module _ (t : Table) where
       ∙ past number asked (λ e. ap (λ a. tickResults a .0) (sym (none-refused NoTick asked _ e)) ∙ ticks t (and-l (accepted t) _ e) l (and-r (accepted t) _ e))
       ∙ rw (joined (realMonth l) (realDay l))
 
-  pub given-exactly : GivenExactly t
+  given-exactly : GivenExactly t
   unfolding start
   given-exactly =
       record {
@@ -296,3 +296,6 @@ orders =
       start-the-clock = λ t. refl;
       tick-the-clock = λ t l. refl;
     }
+
+pub every-call : EveryCall
+every-call = given-exactly

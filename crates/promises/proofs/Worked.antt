@@ -31,7 +31,7 @@ use Rattle.stamp.proofs.Promise.{in-range-reads, reads-stamp}
 use Rattle.stamp.proofs.Cycles.{quickInstant, quick-instant}
 use Rattle.block.specs.Desk.{blockB, blockT, blockN, tableT, tableN}
 use Rattle.block.specs.Reading.{readGroups, readEntries, inBlock}
-use Rattle.block.proofs.Desk.{named-right}
+use Rattle.block.proofs.Desk.{named-right, edged}
 use Rattle.pictures.specs.declared.FieldsAnswer.{FieldsAnswer}
 use Rattle.pictures.specs.declared.FieldsAnswer.the-variants.{Picture, NoPicture}
 use Rattle.pictures.specs.Pictures.{pictureText}
@@ -40,8 +40,9 @@ use Rattle.text.specs.declared.TextAnswer.{TextAnswer}
 use Rattle.text.specs.declared.TextAnswer.the-variants.{Read, Refused}
 use Rattle.text.specs.Text.{readingOf, fieldsRead, textOf, textAt, readText, textResults}
 use Rattle.text.proofs.Exactly.{reads-as}
+use Rattle.text.proofs.Desk.{without-shape}
 use Rattle.julian.specs.Dates.{writeJulian, julianResults}
-use Rattle.julian.proofs.Desk.{julian-row}
+use Rattle.julian.proofs.Desk.{julian-row, desk}
 use Rattle.promises.specs.Worked.{reads, writes, writes-not, rows, furtherRows, tableIn, Right, AllRight, Worked}
 
 -- ---- the tables of the desk's blocks
@@ -125,4 +126,4 @@ unfolding eqZ allBelow leapYear monthLength daysBefore oneApart placeRight accep
 further-rows = (quick is-B _ _, (written-noon, (quick is-B _ _, (refused-early, (ap (λ (t : Table). julianResults (writeJulian t (pos 0) 1)) is-B ∙ julian-row, tt)))))
 
 pub worked : Worked
-worked = record { named-blocks = named-right; proved-set = proved-set; further-rows = further-rows }
+worked = record { named-blocks = named-right; proved-set = proved-set; further-rows = further-rows; block-edges = edged; no-picture = without-shape; doubles = desk }

@@ -1,29 +1,38 @@
 -- Answers in the scope's numbers: that of the refusal, 0 on success, the place of a refused block, and the values, zero in the rest on a refusal.
 -- Each crate has them for its answer type, case by case (`writtenResults`, `instantResults`, `stampResults`, `tickResults`, `textResults`, `julianResults`,
--- `tableResults`), and the promises speak of answers by these alone, but for `Settled`, which
--- repeats the contracts. Here is what holds of them; stamps, labels and pairs are shown in C's form.
+-- `tableResults`). Here is what holds of them; what a refusal hands over is shown in C's form.
 -- Assumes nothing.
 use mathlib.Core.Path.{_≡_}
 use mathlib.Core.Bool.{false}
 use mathlib.Core.List.{_∷_, _++_}
 use Prim.Native.Nat.{ℕ}
-use lib.IntN.{pos, negsuc}
+use lib.IntN.{ℤ, pos, negsuc}
 use lib.Ieee.{fin}
 use lib.ListN.{replicate}
 use Rattle.answer.specs.declared.Refusal.{Refusal}
-use Rattle.answer.specs.declared.Written.the-variants.{Refused as NotWritten}
+use Rattle.answer.specs.declared.Written.the-variants.{Wrote, Refused as NotWritten}
 use Rattle.answer.specs.Refusals.{number}
 use Rattle.answer.specs.Buffers.{writtenResults}
-use Rattle.stamp.specs.declared.InstantAnswer.the-variants.{Refused as NoInstant}
-use Rattle.stamp.specs.declared.StampAnswer.the-variants.{Refused as NoStamp}
-use Rattle.stamp.specs.Stamps.{instantResults}
-use Rattle.clock.specs.declared.TickAnswer.the-variants.{Refused as NoTick}
-use Rattle.text.specs.declared.TextAnswer.the-variants.{Refused as NoText}
-use Rattle.julian.specs.declared.JulianAnswer.the-variants.{Refused as NoDate}
-use Rattle.leap.specs.Readers.{noTable, refusedAt, tableResults}
+use Rattle.labels.specs.declared.Label.{Label}
+use Rattle.labels.specs.Labels.{fields}
+use Rattle.stamp.specs.declared.InstantAnswer.the-variants.{At, Refused as NoInstant}
+use Rattle.stamp.specs.declared.Stamp.{Stamp}
+use Rattle.stamp.specs.declared.StampAnswer.the-variants.{Stamped, Refused as NoStamp}
+use Rattle.stamp.specs.Scales.{scaleNumber}
+use Rattle.stamp.specs.Stamps.{instantResults, stampResults}
+use Rattle.clock.specs.declared.TickAnswer.the-variants.{Next, Refused as NoTick}
+use Rattle.clock.specs.Clock.{tickResults}
+use Rattle.text.specs.declared.TextAnswer.the-variants.{Read, Refused as NoText}
+use Rattle.text.specs.Text.{textResults}
+use Rattle.julian.specs.declared.JulianDate.{JulianDate}
+use Rattle.julian.specs.declared.JulianAnswer.the-variants.{Dated, Refused as NoDate}
+use Rattle.julian.specs.Dates.{julianResults}
+use Rattle.leap.specs.declared.Table.{Table}
+use Rattle.leap.specs.Readers.{noTable, found, refusedAt, tableResults}
 use Rattle.block.specs.Desk.{tableN}
 use Rattle.mundreff.specs.Words.{offsetWord, tableWords, Undone}
-use Rattle.mundreff.specs.Answers.{tableNumbers, stampNumbers, labelNumbers, textNumbers, pairNumbers}
+use Rattle.mundreff.specs.Answers.{tableNumbers, stampFields, stampNumbers, labelNumbers, textNumbers, pairNumbers}
+use Rattle.mundreff.specs.Calls.{labelFrom, scaleFrom, readingFrom}
 
 -- what a refusal hands over, whatever the call: its number, and zero in the rest
 pub record ZeroInTheRest (why : Refusal) : Type 0 where
@@ -37,12 +46,26 @@ pub record ZeroInTheRest (why : Refusal) : Type 0 where
   pub a-block : (place : ℕ) → tableResults (refusedAt why place) ≡ (number why, place, noTable)
   pub a-block-in-c : (place : ℕ) → tableNumbers (refusedAt why place) ≡ (number why, place, replicate 129 0)
 
+-- what a success hands over: 0, and its values as they are
+pub record AsItIs : Type 0 where
+  pub writing : (n : ℕ) → writtenResults (Wrote n) ≡ (0, n)
+  pub an-instant : (x : ℤ) → instantResults (At x) ≡ (0, x)
+  pub a-stamp : (z : Stamp) → stampResults (Stamped z) ≡ (0, z)
+  pub a-label : (l : Label) → tickResults (Next l) ≡ (0, l)
+  pub a-text : (x : ℤ) (z : Stamp) → textResults (Read x z) ≡ (0, x, z)
+  pub a-pair : (p : JulianDate) → julianResults (Dated p) ≡ (0, p)
+  pub a-block : (t : Table) → tableResults (found t) ≡ (0, 0, t)
+
 pub record Answers : Type 0 where
   -- a table in C: the count, 64 months, 64 offsets; -1 has all bits set
   pub a-table-in-c : tableWords tableN ≡ 2 ∷ ((0 ∷ 6 ∷ replicate 62 0) ++ (10 ∷ 9 ∷ replicate 62 0))
   pub minus-one-in-c : offsetWord (negsuc 0) ≡ 4294967295
   pub table-and-words : Undone
+  -- a stamp and a label in C are read back as they are handed over
+  pub stamp-and-numbers : (z : Stamp) → (scaleFrom (stampFields z) ≡ scaleNumber (z .scale)) × (readingFrom (stampFields z) ≡ z .reading)
+  pub label-and-numbers : (l : Label) → labelFrom 0 (fields l) ≡ l
   pub zero-in-the-rest : (why : Refusal) → ZeroInTheRest why
+  pub success-as-it-is : AsItIs
   -- no two refusals share a number, and none has that of success
   pub numbers-differ : (why other : Refusal) → number why ≡ number other → why ≡ other
   pub none-is-success : (why : Refusal) → number why ≡ 0 → ⊥

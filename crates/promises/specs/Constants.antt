@@ -11,8 +11,9 @@ use Rattle.leap.specs.Leap.{accepted, epoch, offsetAt, lastEntryMonth as tableM
 use Rattle.labels.specs.declared.Reading.{Reading}
 use Rattle.labels.specs.Labels.{label, at, monthOf}
 use Rattle.labels.specs.Seconds.{secondOf, microOf, firstMonth, lastMonth, endMonth, firstReading}
+use Rattle.stamp.specs.declared.Scale.{Scale}
 use Rattle.stamp.specs.declared.Scale.the-variants.{Utc, Tai, Tdt, Gps}
-use Rattle.stamp.specs.Scales.{instantFor}
+use Rattle.stamp.specs.Scales.{scaleOf, scaleNumber, instantFor}
 use Rattle.julian.specs.Fraction.{day}
 use Rattle.julian.specs.Midnight.{midnightOf}
 
@@ -32,6 +33,9 @@ pub record Constants : Type 0 where
   pub tdt : (t : Table) (r : Reading) → sinceNoon r ≡ instantFor t Tdt r +ℤ pos 32184000
   pub gps : (t : Table) (r : Reading) → sinceNoon r ≡ instantFor t Gps r -ℤ pos 19000000
   pub utc : (t : Table) (r : Reading) → sinceNoon r ≡ instantFor t Utc r -ℤ (pos 1000000 *ℤ offsetAt t (monthOf (r .label)))
+  -- 0 UTC, 1 TAI, 2 TDT, 3 GPS, and back
+  pub scale-numbers : (scaleNumber Utc ≡ 0) × ((scaleNumber Tai ≡ 1) × ((scaleNumber Tdt ≡ 2) × (scaleNumber Gps ≡ 3)))
+  pub scales-numbered : (s : Scale) → scaleOf (scaleNumber s) ≡ s
   -- labels begin 883,655,990 seconds before that noon, on UTC
   pub first-instant : (t : Table) → accepted t ≡ true → instantFor t Utc firstReading ≡ negℤ (pos (1000000 * 883655990))
   -- January 1972, where tables and labels begin, is month 23,664

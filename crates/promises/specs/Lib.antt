@@ -10,4 +10,5 @@ pub mod Text
 pub mod Blocks
 pub mod Clock
 pub mod Julian
+pub mod Listing
 pub mod Worked

@@ -181,3 +181,6 @@ pub record GivenExactly (t : Table) : Type 0 where
   pub write-block : (buffer : List ℕ) → writtenResults (writeBlock t buffer) .0 ≡ verdict (writeBlockTests t buffer)
   pub start-the-clock : tickResults (start t) .0 ≡ verdict (startTests t)
   pub tick-the-clock : (l : Label) → tickResults (tick t l) .0 ≡ verdict (tickTests t l)
+
+abbrev pub EveryCall : Type 0
+EveryCall = (t : Table) → GivenExactly t

@@ -19,9 +19,11 @@ use Rattle.labels.specs.Labels.{at}
 use Rattle.stamp.specs.Scales.{scaleOf}
 use Rattle.stamp.specs.Stamps.{noStamp}
 use Rattle.stamp.specs.Promise.{stamp}
-use Rattle.block.specs.Desk.{blockB, blockT, blockN, named, AllBlocksRight}
+use Rattle.block.specs.Desk.{blockB, blockT, blockN, named, edges, AllBlocksRight}
 use Rattle.block.specs.Reading.{readBlock}
 use Rattle.text.specs.Text.{readText, textResults, writeText, writeTextAfter}
+use Rattle.text.specs.Desk.{shapeless, AllShapeless}
+use Rattle.julian.specs.Desk.{Desk}
 use Rattle.julian.specs.Dates.{writeJulian, julianResults}
 
 pub data Row : Type 0 where
@@ -99,3 +101,7 @@ pub record Worked : Type 0 where
   pub named-blocks : AllBlocksRight named
   pub proved-set : AllRight rows
   pub further-rows : AllRight furtherRows
+  -- our own: the edges of the paragraph on blocks, texts without a picture, doubles that are easily read otherwise
+  pub block-edges : AllBlocksRight edges
+  pub no-picture : AllShapeless shapeless
+  pub doubles : Desk

@@ -16,6 +16,7 @@ use Rattle.answer.specs.declared.Written.the-variants.{Wrote, Refused}
 use Rattle.answer.specs.Refusals.{refusing, allPass}
 use Rattle.answer.specs.Buffers.{roomLast, writtenResults}
 use Rattle.answer.proofs.Orders.{none-refused}
+use Rattle.answer.proofs.Promise.{writer}
 use Rattle.leap.specs.declared.Table.{Table}
 use Rattle.leap.specs.Leap.{accepted}
 use Rattle.leap.proofs.Facts.{accepted-to}
@@ -132,4 +133,5 @@ module _ (t : Table) (k : ℕ) (x : ℤ) (p d : ℕ) (buffer : List ℕ) where
             let w = was-written e in
             let same = sym (its-text (w .0) (w .1 .0) (w .1 .1)) ∙ its-text (w .0) r h in
             its-bytes (w .0) r h (subst (λ (b : List ℕ). length b ≤ length buffer) same (w .1 .2));
+        or-nothing = writer (writeTests t x p k d) text buffer .or-nothing;
       }

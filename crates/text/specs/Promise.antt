@@ -73,6 +73,8 @@ pub record WrittenExactly (t : Table) (k : ℕ) (x : ℤ) (p digits : ℕ) (buff
   -- what a success is: the length of the text of the instant's reading, its bytes, and past them the buffer's own
   pub as-text : (r : Reading) → Reads t (scaleOf k) r x → writtenResults (writeText t x p k digits buffer) .0 ≡ 0
       → (writtenResults (writeText t x p k digits buffer) ≡ (0, length (textOf p digits r))) × (writeTextAfter t x p k digits buffer ≡ over (textOf p digits r) buffer)
+  -- a refusal leaves every byte of the buffer
+  pub or-nothing : (writtenResults (writeText t x p k digits buffer) .0 ≡ 0 → ⊥) → writeTextAfter t x p k digits buffer ≡ buffer
 
 -- ---- reading what is written
 

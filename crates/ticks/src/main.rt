@@ -1,5 +1,5 @@
 // Reads three lines and nothing past the third, and prints what `listing` says of them.
-// That 3,075 bytes are enough is `EnoughRead` of listing; past a third line's end there is nothing that it looks at.
+// That 3,075 bytes are enough is `enough-read` of listing's promise; past a third line's end there is nothing that it looks at.
 use answer::Written;
 use libc::STDIN_FILENO;
 use libc::STDOUT_FILENO;
