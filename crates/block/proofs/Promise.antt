@@ -1,6 +1,6 @@
--- Accepted tables and their blocks match one to one: what is written is read back, and only what is written is read.
+-- What is promised of blocks: they match accepted tables one to one, and what reading and writing answers.
 -- Assumes nothing.
-use Prim.Native.Nat.{ℕ, zero, suc, _+_, _-_, _/_, _<_}
+use Prim.Native.Nat.{ℕ, zero, suc, _+_, _-_, _/_}
 use mathlib.Core.Path.{_≡_, refl, sym, ap, ap₂, subst, _∙_}
 use mathlib.Core.List.{List, [], _∷_, _++_}
 use mathlib.Core.Bool.{Bool, true, false}
@@ -26,7 +26,7 @@ use Rattle.leap.proofs.Readers.{was-entered}
 use Rattle.block.specs.declared.NumberAnswer.{NumberAnswer}
 use Rattle.block.specs.declared.NumberAnswer.the-variants.{Number, Cut, Groups}
 use Rattle.block.specs.Numbers.{numberBytes}
-use Rattle.block.specs.Blocks.{stepNumber, stepBytes, blockOf, tests, writeBlock, writeBlockAfter}
+use Rattle.block.specs.Blocks.{stepNumber, stepBytes, blockOf, blockTests, writeBlock, writeBlockAfter}
 use Rattle.block.specs.Faults.{countFine, gapFine, noFault, faultAt}
 use Rattle.block.specs.Reading.{readNumber, nextEntry, onNumber, readEntries, inBlock, readBlock}
 use Rattle.block.specs.Promise.{Bytes, GivesTable, OneToOne, ReadsBlock, WritesBlock, Blocks}
@@ -209,7 +209,7 @@ writes t buffer = go (accepted t) (leb (length (blockOf t)) (length buffer)) ref
     other p q = ap (λ x. x .0) (sym p ∙ q)
 
     keeps : (writtenResults (writeBlock t buffer) .0 ≡ 0 → ⊥) → writeBlockAfter t buffer ≡ buffer
-    keeps = writer (tests t) (blockOf t) buffer .or-nothing
+    keeps = writer (blockTests t) (blockOf t) buffer .or-nothing
 
     go : (a b : Bool) → accepted t ≡ a → leb (length (blockOf t)) (length buffer) ≡ b → WritesBlock t buffer
     go true true p q =

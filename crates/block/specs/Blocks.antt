@@ -29,11 +29,11 @@ blockOf t = numberBytes (t .count) ++ stepBytes (entries t)
 
 -- ---- writing it: the order of refusals, the answer, and the buffer afterwards
 
-abbrev pub tests : Table → List (Bool × Refusal)
-tests t = (accepted t, TABLE) ∷ []
+abbrev pub blockTests : Table → List (Bool × Refusal)
+blockTests t = (accepted t, TABLE) ∷ []
 
 abbrev pub writeBlock : Table → List ℕ → Written
-writeBlock t buffer = written (tests t) (blockOf t) buffer
+writeBlock t buffer = written (blockTests t) (blockOf t) buffer
 
 abbrev pub writeBlockAfter : Table → List ℕ → List ℕ
-writeBlockAfter t buffer = bufferAfter (tests t) (blockOf t) buffer
+writeBlockAfter t buffer = bufferAfter (blockTests t) (blockOf t) buffer

@@ -117,7 +117,7 @@ fn gap_fine(before: u32, n: u32) -> bool
     ensures { λ r. ⌜ r ≡ gapFine before n ⌝ }
 {
     let gap = n / 2;
-    (0 < gap) & (before + gap <= leap::LAST_MONTH)
+    (0 < gap) & (before + gap <= leap::LAST_ENTRY_MONTH)
 }
 
 // The offset after `before`, by the number's lowest bit.

@@ -8,7 +8,7 @@ use Prim.Native.Nat.{ℕ, zero, suc, _+_, _-_, _*_, _≤_, _<_}
 use native.Mathlib.Omega.{arith}
 use lib.IntN.{pos, _+ℤ_}
 use Rattle.laws.proofs.Cases.{join}
-use Rattle.laws.proofs.Difference.{up, down, sum-is, eq-from}
+use Rattle.laws.proofs.Difference.{up, down}
 use Rattle.laws.proofs.Offsets.{Steps}
 use Rattle.answer.specs.declared.Refusal.the-variants.{Table as TABLE, Range as RANGE}
 use Rattle.answer.proofs.Orders.{none-refused, number-some}
@@ -19,11 +19,10 @@ use Rattle.leap.specs.Leap.{accepted, offsetAt}
 use Rattle.leap.proofs.Facts.{Accepted, accepted-to}
 use Rattle.leap.proofs.Moves.{at-first, steps-by-months}
 use Rattle.labels.specs.declared.Label.{Label}
-use Rattle.labels.specs.Labels.{Offsets, whole, monthOf, labelTests}
-use Rattle.labels.specs.Seconds.{secondOf, axisOf, firstMonth, lastMonth, endMonth}
+use Rattle.labels.specs.Labels.{Offsets, whole, labelTests}
+use Rattle.labels.specs.Seconds.{axisOf, firstMonth, lastMonth, endMonth}
 use Rattle.labels.proofs.Turn.{turn}
-use Rattle.labels.proofs.Falls.{before-later}
-use Rattle.labels.proofs.Exists.{second-few, second-falls}
+use Rattle.labels.proofs.Exists.{second-few}
 use Rattle.labels.proofs.Order.{order, order-back}
 use Rattle.labels.proofs.Admitted.{admitted-to, admitted-from}
 use Rattle.labels.proofs.Years.{axis-second, first-second, last-second, days-last, days-end}

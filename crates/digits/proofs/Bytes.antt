@@ -1,7 +1,7 @@
 -- Bytes at an index, bytes that are the same, and text in a lent buffer: one appended, one behind another.
 -- Assumes nothing.
 use mathlib.Core.Path.{_≡_, refl, sym, ap, ap₂, subst, _∙_}
-use mathlib.Core.Bool.{true, _&&_}
+use mathlib.Core.Bool.{true}
 use mathlib.Core.List.{List, [], _∷_, _++_, append-assoc}
 use Prim.Native.Nat.{ℕ, zero, suc, _+_, _-_, min, _≤_, _<_}
 use native.Mathlib.Omega.{arith}
@@ -17,13 +17,6 @@ use Rattle.digits.specs.Bytes.{bytesAt, sameBytes, endOf, appended, Appe
 pub bytes-length : (s : List ℕ) (i w : ℕ) → length (bytesAt s i w) ≡ w
 bytes-length s i zero = refl
 bytes-length s i (suc w) = ap suc (bytes-length s (i + 1) w)
-
-pub same-yes : {a b : List ℕ} → a ≡ b → sameBytes a b ≡ true
-same-yes {a} e = subst (λ (b : List ℕ). sameBytes a b ≡ true) e (self a)
-  where
-    self : (a : List ℕ) → sameBytes a a ≡ true
-    self [] = refl
-    self (x ∷ xs) = join (eq-eqb x x refl) (self xs)
 
 pub same-true : (a b : List ℕ) → sameBytes a b ≡ true → a ≡ b
 same-true [] [] e = refl

@@ -100,25 +100,6 @@ digits-cut (suc w) (suc k) j n e =
     rw (split, ← div-div-eq-div-mul, ← div-div-eq-div-mul, whole, mul-div-cancel (n / 10 ^ j) {n = 10 ^ j} (one-le-pow j 10 (lit< tt))) in
     ap₂ (λ (q : ℕ) (l : List ℕ). (48 + q % 10) ∷ l) same (digits-cut w k j n (omega arith))
 
--- ---- nothing but digits
-
-module _ (s : List ℕ) (i w k : ℕ) where
-  pub all-none : w ≤ k → true ≡ allDigits (bytesAt s (i + k) (w - k))
-  unfolding allDigits
-  all-none h = let e : w - k ≡ 0 = omega arith in rw e
-
-  module _ (h : k < w) where
-    one : bytesAt s (i + k) (w - k) ≡ getD s (i + k) 0 ∷ bytesAt s (i + (k + 1)) (w - (k + 1))
-    one = let e : w - k ≡ suc (w - (k + 1)) = omega arith in rw (e, ← add-assoc)
-
-    pub all-other : isDigit (getD s (i + k) 0) ≡ false → false ≡ allDigits (bytesAt s (i + k) (w - k))
-    unfolding allDigits
-    all-other e = rw (one, e)
-
-    pub all-more : isDigit (getD s (i + k) 0) ≡ true → allDigits (bytesAt s (i + (k + 1)) (w - (k + 1))) ≡ allDigits (bytesAt s (i + k) (w - k))
-    unfolding allDigits
-    all-more e = rw (one, e)
-
 -- ---- how large a spelled number is
 
 spelled-lt : (l : List ℕ) (a : ℕ) → spelled a l < (a + 1) * 10 ^ length l

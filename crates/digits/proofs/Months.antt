@@ -1,7 +1,7 @@
 -- A name is looked up among those of the months: each is found, and what is found has the name.
 -- Assumes nothing.
-use mathlib.Core.Path.{_≡_, refl, sym, ap, subst, _∙_}
-use mathlib.Core.Bool.{Bool, true, false, cond, _&&_}
+use mathlib.Core.Path.{_≡_, refl, sym, ap, _∙_}
+use mathlib.Core.Bool.{Bool, true, false, cond}
 use mathlib.Core.List.{List}
 use Prim.Native.Nat.{ℕ, zero, suc, _≤_, _<_}
 use native.Mathlib.Omega.{arith}
@@ -47,15 +47,3 @@ pub named-back : (m : ℕ) → 1 ≤ m → m ≤ 12 → monthNamed (monthName m)
 unfolding allBelow itself monthNamed amongMonths
 named-back zero h g = absurd (omega arith)
 named-back (suc k) h g = eqb-true _ _ (below itself 12 refl k g)
-
--- 0 has the name of a month, so bytes that are none have another
-pub named-some : (name : List ℕ) → monthName (monthNamed name) ≡ name → 1 ≤ monthNamed name
-unfolding monthNamed amongMonths
-named-some name e = go (monthNamed name) refl
-  where
-    go : (m : ℕ) → monthNamed name ≡ m → 1 ≤ m
-    go zero p =
-        let q : monthName 0 ≡ name = ap monthName (sym p) ∙ e in
-        let z : _≡_ {A = ℕ} 12 0 = ap monthNamed q ∙ p in
-        absurd (omega arith)
-    go (suc m) p = omega arith

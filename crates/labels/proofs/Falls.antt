@@ -7,9 +7,9 @@ use native.Mathlib.Numerals.{add-one}
 use native.Mathlib.Omega.{arith}
 use native.Mathlib.Decide.{le-ind}
 use lib.IntN.{ℤ, pos, _-ℤ_}
-use lib.Signed.{leZ, _≤ℤ_}
+use lib.Signed.{leZ}
 use Rattle.laws.proofs.Cases.{by-order}
-use Rattle.laws.proofs.Difference.{up, down, sum-is, diff-is, leZ-true, leZ-false, le-from}
+use Rattle.laws.proofs.Difference.{up, down, sum-is, diff-is, leZ-true, leZ-false}
 use Rattle.laws.proofs.Machine.{one-side, natAbs-is}
 use Rattle.months.specs.Months.{daysBefore}
 use Rattle.calendar.specs.Days.{monthOfDay}

@@ -1,7 +1,7 @@
 -- Readings on days of 86,400 seconds: each has the microsecond that it shows, and no other without a second 60 shows it.
 -- Assumes nothing.
 use mathlib.Core.Path.{_≡_, refl, ap, ap₂, _∙_}
-use Prim.Native.Nat.{ℕ, _+_, _-_, _*_, _/_, _%_, _≤_, _<_}
+use Prim.Native.Nat.{ℕ, _-_, _*_, _/_, _%_, _≤_, _<_}
 use native.Mathlib.Omega.{arith}
 use Rattle.laws.proofs.Cases.{pick}
 use Rattle.laws.proofs.Offsets.{uniform-steps}
@@ -11,10 +11,9 @@ use Rattle.calendar.specs.Days.{monthOfDay}
 use Rattle.calendar.proofs.Days.{in-month}
 use Rattle.labels.specs.declared.Label.{Label}
 use Rattle.labels.specs.declared.Reading.{Reading}
-use Rattle.labels.specs.declared.Place.{Place}
 use Rattle.labels.specs.Labels.{Offsets, uniform, lastMinute, inLastMinute, monthOf, minuteIn, minuteLength}
 use Rattle.labels.specs.Seconds.{secondOf, microOf, firstReading, lastReading, lastMonth}
-use Rattle.labels.specs.Back.{placeIn, placeAt, monthAt, labelAt, readingAt}
+use Rattle.labels.specs.Back.{placeAt, monthAt, labelAt, readingAt}
 use Rattle.labels.proofs.Falls.{In, Covered, since-is}
 use Rattle.labels.proofs.Exists.{Exists}
 use Rattle.labels.proofs.Guess.{month-is}

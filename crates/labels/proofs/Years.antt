@@ -8,7 +8,7 @@ use lib.IntN.{ℤ, pos, _*ℤ_}
 use lib.Signed.{leZ}
 use Rattle.laws.proofs.Cases.{and-l, and-r, join}
 use Rattle.laws.proofs.Difference.{up, down, sum-is, eq-from, leZ-true, le-leZ}
-use Rattle.laws.proofs.Machine.{one-side, times-is}
+use Rattle.laws.proofs.Machine.{times-is}
 use Rattle.laws.proofs.Offsets.{Steps}
 use Rattle.months.specs.Months.{leapYear, monthLength, daysBefore}
 use Rattle.months.proofs.Laws.{days-split, days-next, days-1972}

@@ -1,4 +1,4 @@
--- The way back, from a microsecond of the axis to the reading that stands there. Nothing here need be believed: the promises say that it undoes the way there.
+-- The way back, from a microsecond of the axis to the reading that stands there. Nothing here need be believed: `Converts` of `stamp` fixes what comes of it by the way there.
 -- Assumes nothing.
 use mathlib.Core.Bool.{cond}
 use Prim.Native.Nat.{ℕ, zero, suc, _+_, _*_, _-_, _/_, _%_, min}

@@ -5,3 +5,4 @@ pub mod Machine
 pub mod Tables
 pub mod Placed
 pub mod Offsets
+pub mod Settles

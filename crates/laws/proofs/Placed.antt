@@ -24,9 +24,6 @@ module _ {A : Type 0} where
   pub over-rest : (new old : List A) {n : ℕ} → length new ≡ n → drop n (over new old) ≡ drop n old
   over-rest new old {n} e = drop-at new (drop (length new) old) n e ∙ ap (λ (k : ℕ). drop k old) e
 
-  pub over-new : (new old : List A) (k : ℕ) (d : A) → k < length new → getD (over new old) k d ≡ getD new k d
-  over-new new old k d h = List·getD-append new (drop (length new) old) d k h
-
   pub over-old : (new old : List A) (k : ℕ) (d : A) → length new ≤ k → getD (over new old) k d ≡ getD old k d
   over-old new old k d h =
       let e : k ≡ length new + (k - length new) = omega arith in
@@ -48,31 +45,6 @@ module _ {A : Type 0} where
 
   pub length-place : (old : List A) (i : ℕ) (new : List A) → i + length new ≤ length old → length (place old i new) ≡ length old
   length-place old i new h = simp (length-append, length-take, length-drop) (omega arith)
-
-  -- at a place before, among and past the new elements
-  pub place-before : (old : List A) (i : ℕ) (new : List A) (k : ℕ) (d : A) → i ≤ length old → k < i → getD (place old i new) k d ≡ getD old k d
-  place-before old i new k d h l =
-      let e : length (take i old) ≡ i = length-take-le i old h in
-      List·getD-append (take i old) (new ++ drop (i + length new) old) d k (omega arith) ∙ getD-take i old k d l
-
-  pub place-after : (old : List A) (i : ℕ) (new : List A) (k : ℕ) (d : A) → i ≤ length old → getD (place old i new) (i + k) d ≡ getD (new ++ drop (i + length new) old) k d
-  place-after old i new k d h =
-      ap (λ (j : ℕ). getD (place old i new) (j + k) d) (sym (length-take-le i old h))
-      ∙ getD-append-add (take i old) (new ++ drop (i + length new) old) k d
-
-  pub place-new : (old : List A) (i : ℕ) (new : List A) (k : ℕ) (d : A) → i ≤ length old → k < length new → getD (place old i new) (i + k) d ≡ getD new k d
-  place-new old i new k d h l = place-after old i new k d h ∙ List·getD-append new (drop (i + length new) old) d k l
-
-  pub place-past : (old : List A) (i : ℕ) (new : List A) (k : ℕ) (d : A) → i ≤ length old → i + length new ≤ k → getD (place old i new) k d ≡ getD old k d
-  place-past old i new k d h l =
-      let rest = k - (i + length new) in
-      let e : k ≡ i + (length new + rest) = omega arith in
-      let f : i + length new + rest ≡ k = omega arith in
-      ap (λ (j : ℕ). getD (place old i new) j d) e
-      ∙ place-after old i new (length new + rest) d h
-      ∙ getD-append-add new (drop (i + length new) old) rest d
-      ∙ getD-drop (i + length new) old rest d
-      ∙ ap (λ (j : ℕ). getD old j d) f
 
   -- more elements right after those placed
   pub place-then : (old : List A) (i : ℕ) (a b : List A) {o : List A} {j : ℕ} → o ≡ place old i a → j ≡ i + length a → j + length b ≤ length old → place o j b ≡ place old i (a ++ b)

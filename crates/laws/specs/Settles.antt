@@ -19,12 +19,16 @@ infix 5 _becomes_
 abbrev pub _becomes_ : {X : Type 0} → Lent X → X → Lent X
 l becomes x = at-last l x
 
--- nothing is asked for, and what is allowed is exactly this outcome: two that are allowed are equal
+-- nothing is asked for, and what is allowed is exactly this outcome
 pub record Settles {A : Type 0} (asked : Type 0) (allowed : A → Type 0) (outcome : A) : Type 0 where
   pub asks-nothing : asked
   pub allows-it-alone : (a : A) → allowed a ↔ (a ≡ outcome)
 
--- a call that writes to nothing lent is settled: this is its answer
+-- so any two outcomes that a contract allows coincide
+abbrev pub Coincide : Type 1
+Coincide = (A asked : Type 0) (allowed : A → Type 0) (outcome : A) → Settles asked allowed outcome → (a b : A) → allowed a → allowed b → a ≡ b
+
+-- a call that writes to nothing lent is settled: this is its answer. One with a lent value to write to stands under `Leaves`
 abbrev pub Returns : {K A R : Type 0} → (K → A → Type 0) → (K → A → R → A → Type 0) → A → R → Type 0
 Returns {K} pre post arguments answer = (lifetimes : K) → Settles (pre lifetimes arguments) (λ r. post lifetimes arguments r arguments) answer
 

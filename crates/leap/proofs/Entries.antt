@@ -6,7 +6,7 @@ use Prim.Native.Nat.{ℕ, zero, suc, _+_, _-_, _≤_, _<_}
 use native.Mathlib.Numerals.{add-one}
 use native.Mathlib.Omega.{arith}
 use lib.IntN.{ℤ, pos}
-use lib.ListN.{length, getD, set, replicate, length-append, length-replicate, length-map, List·getD-append, List·getD-eq-default, List·getD-map}
+use lib.ListN.{length, getD, set, length-append, length-replicate, length-map, List·getD-append, List·getD-eq-default, List·getD-map}
 use lib.Seq.{set-at, getD-append-add, ext-getD, append-snoc}
 use Rattle.laws.proofs.Cases.{by-order}
 use Rattle.laws.proofs.Placed.{replicate-same}

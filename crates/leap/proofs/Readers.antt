@@ -2,7 +2,6 @@
 -- Assumes nothing.
 use mathlib.Core.Path.{_≡_, refl, ap}
 use mathlib.Core.List.{List, [], _++_, append-assoc}
-use Prim.Native.Nat.{ℕ}
 use Rattle.answer.proofs.Orders.{number-some}
 use Rattle.leap.specs.declared.Table.{Table}
 use Rattle.leap.specs.Entries.{Entry, tableOf}

@@ -22,7 +22,7 @@ pub struct Table {
 pub const EPOCH: u32 = 23664;
 
 // December 9999 in the table's months.
-pub const LAST_MONTH: u32 = 96335;
+pub const LAST_ENTRY_MONTH: u32 = 96335;
 
 pub fn tabled<'a>(count: usize, months: &'a [u32; 64], offsets: &'a [i32; 64]) -> Table
     ensures { λ r. ⌜ r ≡ tabled count (now (months .entry)) (now (offsets .entry)) ⌝ }
@@ -97,7 +97,7 @@ fn first_right(month: u32, offset: i32) -> bool
 fn later_right(prior: u32, before: i32, month: u32, offset: i32) -> bool
     ensures { λ r. ⌜ r ≡ laterRight prior before month offset ⌝ }
 {
-    (prior < month) & ((month <= LAST_MONTH) & one_apart(before, offset))
+    (prior < month) & ((month <= LAST_ENTRY_MONTH) & one_apart(before, offset))
 }
 
 fn unused_right(month: u32, offset: i32) -> bool

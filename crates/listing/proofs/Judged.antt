@@ -20,7 +20,6 @@ use Rattle.labels.specs.Labels.{Offsets, realYear, realMonth, realDay, realCloc
 use Rattle.stamp.specs.Scales.{instantFor}
 use Rattle.stamp.specs.Promise.{stamp}
 use Rattle.clock.specs.Promise.{admits}
-use Rattle.pictures.specs.declared.Fields.{Fields}
 use Rattle.pictures.specs.declared.FieldsAnswer.{FieldsAnswer}
 use Rattle.pictures.specs.declared.FieldsAnswer.the-variants.{Picture, NoPicture}
 use Rattle.pictures.specs.Reading.{readFields}

@@ -1,4 +1,4 @@
--- Facts that the contracts of private functions cite.
+-- Facts that the contracts of private functions cite. A reader may skip this file.
 -- Assumes nothing.
 use mathlib.Core.Path.{_≡_}
 use mathlib.Core.Bool.{Bool, true}

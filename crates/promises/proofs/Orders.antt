@@ -49,7 +49,7 @@ use Rattle.clock.specs.declared.TickAnswer.the-variants.{Next, Refused as NoTic
 use Rattle.clock.specs.Clock.{next, start, tick, tickResults, onward, after}
 use Rattle.clock.specs.Promise.{lastLabel, ended}
 use Rattle.clock.proofs.Promise.{all-tick}
-use Rattle.block.specs.Blocks.{blockOf, tests}
+use Rattle.block.specs.Blocks.{blockOf, blockTests}
 use Rattle.pictures.specs.declared.Date.{Date}
 use Rattle.pictures.specs.declared.Date.the-variants.{Numbered, OfYear, Named}
 use Rattle.pictures.specs.declared.Fields.{Fields}
@@ -278,7 +278,7 @@ module _ (t : Table) where
         write-julian = write-julian;
         read-julian = read-julian;
         read-no-reading = read-no-reading;
-        write-block = λ buffer. refusing-map (λ a. writtenResults a .0) NotWritten (roomLast (tests t) (blockOf t) buffer) (Wrote (length (blockOf t)));
+        write-block = λ buffer. refusing-map (λ a. writtenResults a .0) NotWritten (roomLast (blockTests t) (blockOf t) buffer) (Wrote (length (blockOf t)));
         start-the-clock = refusing-map (λ a. tickResults a .0) NoTick (startTests t) (Next (label 1972 1 1 0 0 0));
         tick-the-clock = tick-the-clock;
       }

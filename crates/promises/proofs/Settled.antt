@@ -1,6 +1,6 @@
 -- Every call's contract is an equation, or one for the answer and one for the bytes.
 -- Assumes nothing.
-use Rattle.mundreff.proofs.Settled.{equal, each}
+use Rattle.laws.proofs.Settles.{equal, each}
 use Rattle.promises.specs.Settled.{Settled}
 
 pub settled : Settled

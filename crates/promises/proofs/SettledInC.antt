@@ -1,6 +1,7 @@
 -- Every contract is an equation for the number and all that is written; a writer's has one for the bytes beside it.
 -- Assumes nothing.
-use Rattle.mundreff.proofs.Settled.{equal, each, beside, write-text-settled}
+use Rattle.laws.proofs.Settles.{equal, each, beside}
+use Rattle.mundreff.proofs.Settled.{write-text-settled}
 use Rattle.promises.specs.SettledInC.{SettledInC}
 
 pub settled-in-c : SettledInC

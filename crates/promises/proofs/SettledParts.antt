@@ -20,7 +20,7 @@ use Rattle.fields.specs.declared.Cursor.{Cursor}
 use Rattle.fields.specs.declared.U32Field.{U32Field}
 use Rattle.fields.specs.declared.I32Field.{I32Field}
 use Rattle.laws.specs.Settles.{Lent, Settles}
-use Rattle.mundreff.proofs.Settled.{equal, each, following}
+use Rattle.laws.proofs.Settles.{equal, each, following}
 use Rattle.promises.specs.SettledParts.{SettledParts, SettledTables, SettledBytes}
 
 pub settled-parts : SettledParts

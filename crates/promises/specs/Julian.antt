@@ -1,4 +1,4 @@
--- Two-part Julian dates: what is written is close and comes back. Each promise stands in the crate `julian`, under one table.
+-- Two-part Julian dates: which pair an instant has and which instant a pair is read as, exactly when. The statement stands in crates/julian/specs/Promise.antt.
 -- Assumes nothing.
 use Rattle.leap.specs.declared.Table.{Table}
 use Rattle.julian.specs.Promise.{Pairs}

@@ -1,15 +1,15 @@
 -- The scope's paragraph "Order": the tests of each call in one list, each with its refusal. `Orders` has the numbers of each list, to be held against the
 -- paper. `GivenExactly` says that the number which a call answers is that of the first test of its list that fails, and 0 where none does.
--- Reading a block has no list: it answers the first fault from the left, `readBlock`.
+-- Reading a block has no list: it answers the first fault from the left (`ReadsBlock` of `block`).
 -- Assumes nothing.
 use mathlib.Core.Path.{_≡_}
 use mathlib.Core.Logic.{_↔_}
-use mathlib.Core.Bool.{Bool, true, false, not, cond, _&&_}
+use mathlib.Core.Bool.{Bool, true, false, not, _&&_}
 use mathlib.Core.List.{List, [], _∷_, _++_, map}
-use Prim.Native.Nat.{ℕ, _+_}
+use Prim.Native.Nat.{ℕ}
 use lib.Dec.{eqb, leb}
 use lib.IntN.{ℤ}
-use lib.ListN.{length, getD}
+use lib.ListN.{length}
 use lib.Signed.{leZ}
 use Rattle.answer.specs.declared.Refusal.{Refusal}
 use Rattle.answer.specs.declared.Refusal.the-variants.{Room as ROOM, Shape as SHAPE, Year as YEAR, Date as DATE, Clock as CLOCK, NoSecond as NOSECOND, Range as RANGE, Ask as ASK, Table as TABLE, Number as NUMBER}
@@ -31,6 +31,7 @@ use Rattle.pictures.specs.declared.Date.{Date}
 use Rattle.pictures.specs.declared.Date.the-variants.{Numbered, OfYear, Named}
 use Rattle.pictures.specs.declared.Fields.{Fields}
 use Rattle.pictures.specs.Pictures.{pictureText, WellFormed}
+use Rattle.text.specs.Promise.{textLength}
 use Rattle.text.specs.Text.{readingOf, readText, textResults, writeText}
 use Rattle.julian.specs.declared.JulianDate.{JulianDate}
 use Rattle.julian.specs.Fraction.{isFraction}
@@ -94,10 +95,6 @@ withinLabels t s x = leZ (instantFor t s firstReading) x && leZ x (instantFor t 
 -- `stamp_of` and `write_julian`: the instant x on scale number k
 abbrev pub instantTests : Table → ℕ → ℤ → List (Bool × Refusal)
 instantTests t k x = (knownScale k, ASK) ∷ (accepted t, TABLE) ∷ (withinLabels t (scaleOf k) x, RANGE) ∷ []
-
--- the length of a text: that of its picture, and the point with its digits
-abbrev pub textLength : ℕ → ℕ → ℕ
-textLength p digits = getD (19 ∷ 17 ∷ 20 ∷ []) p 0 + cond (eqb digits 0) 0 (1 + digits)
 
 -- `write_text`
 abbrev pub writeTextTests : Table → ℤ → ℕ → ℕ → ℕ → List ℕ → List (Bool × Refusal)

@@ -1,15 +1,14 @@
 -- An instant in range: its place on the axis, which is not negative, and what lies too far from 2000.
 -- Assumes nothing.
 use mathlib.Core.Path.{_≡_, ap, subst}
-use mathlib.Core.Bool.{Bool, true, false}
-use Prim.Native.Nat.{ℕ, _+_, _≤_, _<_}
+use mathlib.Core.Bool.{true, false}
+use Prim.Native.Nat.{_+_, _≤_, _<_}
 use native.Mathlib.Omega.{arith}
-use lib.IntN.{ℤ, pos, negsuc, natAbs}
+use lib.IntN.{ℤ, pos, negsuc}
 use lib.Signed.{_≤ℤ_}
 use Rattle.laws.proofs.Cases.{by-test}
 use Rattle.laws.proofs.Difference.{up, down, eq-from, le-from, integers}
 use Rattle.laws.proofs.Machine.{one-side, natAbs-is}
-use Rattle.laws.proofs.Offsets.{Steps}
 use Rattle.leap.specs.declared.Table.{Table}
 use Rattle.leap.proofs.Facts.{Accepted}
 use Rattle.labels.specs.Seconds.{inYears, firstMonth, lastMonth}

@@ -1,4 +1,4 @@
--- What the contracts of private functions cite.
+-- What the contracts of private functions cite. A reader may skip this file.
 -- Assumes nothing.
 use mathlib.Core.List.{[], _∷_}
 use Prim.Native.Nat.{ℕ, _/_, _%_}

@@ -25,7 +25,7 @@ use Rattle.labels.specs.Labels.{monthOf, labelTests}
 use Rattle.stamp.specs.Scales.{scaleOf, offsetsOf, mostSecond, instantFor}
 use Rattle.stamp.specs.Stamps.{instantIn, stampOf}
 use Rattle.stamp.specs.Back.{inRange, stampAt}
-use Rattle.stamp.specs.Promise.{Reads, stamp}
+use Rattle.stamp.specs.Promise.{stamp}
 use Rattle.labels.proofs.Admitted.{admitted-to}
 use Rattle.stamp.proofs.Promise.{stamp-reads}
 use Rattle.text.specs.declared.TextAnswer.{TextAnswer}

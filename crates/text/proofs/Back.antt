@@ -30,7 +30,7 @@ use Rattle.stamp.proofs.Ranges.{range-count}
 use Rattle.pictures.specs.Pictures.{dateText, clockText, pictureText}
 use Rattle.text.specs.Text.{dateAs, textOf, readText, textResults, writeText, writeTextAfter}
 use Rattle.stamp.proofs.Promise.{in-range-reads, reads-stamp}
-use Rattle.text.specs.Promise.{Known, AcceptedAs, Names, WrittenExactly, Showable, Latest, Back}
+use Rattle.text.specs.Promise.{Known, AcceptedAs, Names, WrittenExactly, Showable, Latest, ReadsBack}
 use Rattle.pictures.proofs.Fraction.{fraction-cut}
 use Rattle.text.proofs.Exactly.{read-exactly}
 use Rattle.text.proofs.Writing.{written-exactly}
@@ -151,7 +151,7 @@ whole : (r : Reading) → cutTo 6 r ≡ r
 unfolding cutTo
 whole r = let e : r .micro - r .micro % 1 ≡ r .micro = omega arith in ap (λ (u : ℕ). record { label = r .label; micro = u }) e
 
-pub back : (t : Table) (k : ℕ) → Back t k
+pub back : (t : Table) (k : ℕ) → ReadsBack t k
 unfolding r′ y sc
 back t k =
     record {

@@ -27,9 +27,13 @@ use Rattle.text.specs.Text.{readingOf, readAnswer, readText, textResults
 
 -- ---- length
 
--- how long a text is: the scope's length of its picture, and the point with its digits
+-- the scope's length of a picture, and the point with its digits
+abbrev pub textLength : ℕ → ℕ → ℕ
+textLength p digits = getD (19 ∷ 17 ∷ 20 ∷ []) p 0 + cond (eqb digits 0) 0 (1 + digits)
+
+-- how long a text is
 abbrev pub Sized : Type 0
-Sized = (p digits : ℕ) (r : Reading) → p ≤ 2 → digits ≤ 6 → length (textOf p digits r) ≡ getD (19 ∷ 17 ∷ 20 ∷ []) p 0 + cond (eqb digits 0) 0 (1 + digits)
+Sized = (p digits : ℕ) (r : Reading) → p ≤ 2 → digits ≤ 6 → length (textOf p digits r) ≡ textLength p digits
 
 -- scale, picture and number of digits are known, and the table is accepted
 pub record Known (t : Table) (k p digits : ℕ) : Type 0 where
@@ -91,7 +95,7 @@ pub record Latest (t : Table) (s : Scale) (digits : ℕ) (x y : ℤ) : Type 0 wh
   pub last : (w : ℤ) → Showable t s digits w → w ≤ℤ x → w ≤ℤ y
 
 -- in any picture, on any scale, in any buffer that has room
-pub record Back (t : Table) (k : ℕ) : Type 0 where
+pub record ReadsBack (t : Table) (k : ℕ) : Type 0 where
   -- what is written with six digits reads back as the instant
   pub six : (x : ℤ) (p : ℕ) (buffer : List ℕ) (n : ℕ) → writtenResults (writeText t x p k 6 buffer) ≡ (0, n) → (z : Stamp) × AcceptedAs t k (take n (writeTextAfter t x p k 6 buffer)) x z
   -- with any number of digits as the last instant not after it that they can show
@@ -103,4 +107,4 @@ pub record Back (t : Table) (k : ℕ) : Type 0 where
 pub record Promised (t : Table) (k : ℕ) : Type 0 where
   pub read : (text : List ℕ) → ReadExactly t k text
   pub written : (x : ℤ) (p digits : ℕ) (buffer : List ℕ) → WrittenExactly t k x p digits buffer
-  pub back : Back t k
+  pub back : ReadsBack t k

@@ -1,8 +1,7 @@
-use mathlib.Core.Path.{_≡_, sym, ap₂, ap, _∙_}
-use mathlib.Core.Bool.{true, false}
+use mathlib.Core.Path.{_≡_, sym, ap, _∙_}
+use mathlib.Core.Bool.{false}
 use lib.IntN.{ℤ, pos}
 use borrow.Author.Needs.{needs}
-use Rattle.laws.proofs.Branches.{cond-rest}
 use Rattle.leap.specs.declared.OffsetPair.{OffsetPair}
 use Rattle.labels.specs.declared.Label.{Label}
 use Rattle.labels.specs.Labels.{inLastMinute, minuteIn}

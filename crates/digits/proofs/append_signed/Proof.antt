@@ -1,7 +1,6 @@
 -- The text that ends the array, with a sign stored before it or not, appended.
 -- Assumes nothing.
 use Prim.Native.Nat.{_-_}
-use mathlib.Core.List.{_∷_}
 use mathlib.Core.Path.{_≡_, ap, _∙_}
 use native.Mathlib.Omega.{arith}
 use lib.IntN.{natAbs}

@@ -1,7 +1,6 @@
 -- The text that ends the array, appended.
 -- Assumes nothing.
 use mathlib.Core.Path.{_∙_}
-use native.Mathlib.Omega.{arith}
 use borrow.Author.Needs.{needs}
 use Rattle.digits.proofs.Bytes.{same-text, rest-is}
 use Rattle.digits.proofs.append_unsigned.Statement.{statement}

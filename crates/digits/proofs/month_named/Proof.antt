@@ -1,6 +1,6 @@
 -- None of the months passed has the name.
 -- Assumes nothing.
-use Prim.Native.Nat.{suc, _-_, _≤_}
+use Prim.Native.Nat.{_≤_}
 use mathlib.Core.List.{[], _∷_}
 use mathlib.Core.Path.{_≡_, refl, sym, _∙_}
 use native.Mathlib.Omega.{arith}

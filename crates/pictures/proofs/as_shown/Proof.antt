@@ -1,4 +1,3 @@
-use borrow.Author.Needs.{needs}
 use borrow.Author.Tests.{eq-eqb, ne-eqb}
 use Rattle.pictures.proofs.as_shown.Statement.{statement}
 use Rattle.pictures.proofs.as_shown.Tie as tie

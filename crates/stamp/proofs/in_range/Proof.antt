@@ -2,21 +2,18 @@
 -- Assumes nothing.
 use mathlib.Core.Path.{_≡_, sym, ap, _∙_}
 use mathlib.Core.Bool.{true, false}
-use Prim.Native.Nat.{_+_, _≤_, _<_}
 use native.Mathlib.Omega.{arith}
-use borrow.Author.Needs.{needs}
 use lib.IntN.{ℤ, pos, negsuc}
 use lib.Signed.{ltZ, _≤ℤ_}
 use mir.Syntax.{w64}
 use mir.Val.{toZ, ofZ}
 use mir.Facts.{toZ-ofZ}
-use Rattle.laws.proofs.Difference.{up, down, ltZ-true, ltZ-false, le-from}
+use Rattle.laws.proofs.Difference.{ltZ-true, ltZ-false, le-from}
 use Rattle.leap.specs.declared.Table.{Table}
 use Rattle.leap.specs.Leap.{tabled}
 use Rattle.leap.proofs.Facts.{Accepted, accepted-to}
 use Rattle.labels.specs.Seconds.{inYears}
-use Rattle.stamp.specs.Scales.{offsetsOf, toAxis}
-use Rattle.stamp.specs.Back.{inRange, axisCount}
+use Rattle.stamp.specs.Scales.{offsetsOf}
 use Rattle.stamp.proofs.Ranges.{too-early, too-late, near-axis, near-count}
 use Rattle.stamp.proofs.in_range.Statement.{statement}
 use Rattle.stamp.proofs.in_range.Tie as tie

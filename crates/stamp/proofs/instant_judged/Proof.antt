@@ -1,6 +1,6 @@
 -- `stamp::instant_judged` meets its contract: the second is asked, and past it stands the reading's instant.
 -- Assumes nothing.
-use mathlib.Core.Path.{_≡_, sym, ap, ap₂, subst, _∙_}
+use mathlib.Core.Path.{_≡_, sym, ap, ap₂, _∙_}
 use Prim.Native.Nat.{ℕ, _+_}
 use native.Mathlib.Omega.{arith}
 use borrow.Author.Needs.{needs, sfits-of}
@@ -15,7 +15,7 @@ use Rattle.months.specs.Months.{monthLength, daysBefore}
 use Rattle.months.proofs.Laws.{days-most, length-most}
 use Rattle.labels.specs.declared.Month.{Month}
 use Rattle.labels.specs.Labels.{Offsets, monthOf, minuteIn, minuteLength}
-use Rattle.labels.specs.Seconds.{microOf, axisAt}
+use Rattle.labels.specs.Seconds.{axisAt}
 use Rattle.labels.proofs.Facts.{second-no, second-yes}
 use Rattle.stamp.specs.declared.InstantAnswer.the-variants.{At}
 use Rattle.stamp.specs.Scales.{offsetsOf, mostSecond, toInstant, instantFor}

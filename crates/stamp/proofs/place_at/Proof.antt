@@ -2,7 +2,7 @@
 -- Assumes nothing.
 use mathlib.Core.Path.{_≡_, refl, sym, ap, ap₂, _∙_}
 use mathlib.Core.Bool.{true, false}
-use Prim.Native.Nat.{ℕ, _+_, _-_, _*_, _/_, _≤_, _<_, _^_}
+use Prim.Native.Nat.{ℕ, _+_, _*_, _/_, _≤_, _<_}
 use native.Mathlib.Omega.{arith}
 use borrow.Author.Needs.{needs, sfits-of}
 use lib.Dec.{T}
@@ -13,17 +13,16 @@ use mir.Val.{SFits, Fits, toZ, ofZ}
 use mir.Facts.{toZ-ofZ}
 use Rattle.laws.proofs.Cases.{by-truth}
 use Rattle.laws.proofs.Difference.{up, down, leZ-true, diff-is, sum-is, le-leZ}
-use Rattle.laws.proofs.Machine.{read1, nonNeg-from, natAbs-is, one-side}
+use Rattle.laws.proofs.Machine.{read1, nonNeg-from, one-side}
 use Rattle.laws.proofs.Offsets.{Steps}
 use Rattle.calendar.specs.declared.Span.{Span}
 use Rattle.months.specs.Months.{daysBefore, monthLength}
 use Rattle.months.proofs.Laws.{days-next, days-most}
 use Rattle.leap.specs.Leap.{tabled}
 use Rattle.leap.proofs.Facts.{accepted-to}
-use Rattle.labels.specs.declared.Place.{Place}
 use Rattle.labels.specs.Labels.{Offsets}
 use Rattle.labels.specs.Seconds.{lastMonth}
-use Rattle.labels.specs.Back.{dayBegins, begins, since, placeIn, placeAt, monthAt}
+use Rattle.labels.specs.Back.{dayBegins, begins, since, placeAt, monthAt}
 use Rattle.labels.proofs.Falls.{Begun, Covered, guess}
 use Rattle.labels.proofs.Guess.{second-range, guess-most, in-next, next-rest, in-guess, guess-rest, month-is}
 use Rattle.labels.proofs.Years.{covered-to}

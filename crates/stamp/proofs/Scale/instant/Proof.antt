@@ -1,6 +1,6 @@
 -- `stamp::Scale::instant` meets its contract: no step leaves an i64.
 -- Assumes nothing.
-use mathlib.Core.Path.{_≡_, sym, subst, _∙_}
+use mathlib.Core.Path.{_≡_, sym, subst}
 use borrow.Author.Needs.{needs, sfits-of}
 use lib.IntN.{ℤ, pos, _-ℤ_}
 use mir.Syntax.{w64}
