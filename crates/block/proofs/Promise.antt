@@ -3,16 +3,15 @@
 use Prim.Native.Nat.{ℕ, zero, suc, _+_, _-_, _/_}
 use mathlib.Core.Path.{_≡_, refl, sym, ap, ap₂, subst, _∙_}
 use mathlib.Core.List.{List, [], _∷_, _++_}
-use mathlib.Core.Bool.{Bool, true, false}
+use mathlib.Core.Bool.{Bool, true}
 use native.Mathlib.Omega.{arith}
 use lib.ListN.{length, drop}
 use lib.Seq.{drop-append-seam, getD-drop}
-use lib.Dec.{eqb, leb, lit<}
-use borrow.Author.Tests.{lt-ltb, le-leb, leb-true, leb-false, eqb-true}
+use lib.Dec.{eqb, lit<}
+use borrow.Author.Tests.{lt-ltb, le-leb, eqb-true}
 use Rattle.laws.proofs.Cases.{by-test, join}
 use Rattle.answer.specs.declared.Refusal.{Refusal}
 use Rattle.answer.specs.Refusals.{number}
-use Rattle.answer.specs.Buffers.{writtenResults}
 use Rattle.answer.proofs.Orders.{number-some, numbers-differ}
 use Rattle.answer.proofs.Promise.{writer}
 use Rattle.leap.specs.declared.Table.{Table}
@@ -26,7 +25,7 @@ use Rattle.leap.proofs.Readers.{was-entered}
 use Rattle.block.specs.declared.NumberAnswer.{NumberAnswer}
 use Rattle.block.specs.declared.NumberAnswer.the-variants.{Number, Cut, Groups}
 use Rattle.block.specs.Numbers.{numberBytes}
-use Rattle.block.specs.Blocks.{stepNumber, stepBytes, blockOf, blockTests, writeBlock, writeBlockAfter}
+use Rattle.block.specs.Blocks.{stepNumber, stepBytes, blockOf, blockTests}
 use Rattle.block.specs.Faults.{countFine, gapFine, noFault, faultAt}
 use Rattle.block.specs.Reading.{readNumber, nextEntry, onNumber, readEntries, inBlock, readBlock}
 use Rattle.block.specs.Promise.{Bytes, GivesTable, OneToOne, ReadsBlock, WritesBlock, Blocks}
@@ -200,42 +199,9 @@ reads s = record {
     is-refused (entered es) e = let z : _≡_ {A = ℕ} 0 1 = cc in absurd (omega arith)
     is-refused {why} {place} (fault other at) e = let f : other ≡ why = cc in let g : at ≡ place = cc in rw (f, g)
 
--- what is written, by whether the table is accepted and the block fits
 pub writes : (t : Table) (buffer : List ℕ) → WritesBlock t buffer
-writes t buffer = go (accepted t) (leb (length (blockOf t)) (length buffer)) refl refl
-  where
-    -- two numbers that differ
-    other : {m n : ℕ} {l : ℕ} → writtenResults (writeBlock t buffer) ≡ (m, l) → writtenResults (writeBlock t buffer) ≡ (n, 0) → m ≡ n
-    other p q = ap (λ x. x .0) (sym p ∙ q)
-
-    keeps : (writtenResults (writeBlock t buffer) .0 ≡ 0 → ⊥) → writeBlockAfter t buffer ≡ buffer
-    keeps = writer (blockTests t) (blockOf t) buffer .or-nothing
-
-    go : (a b : Bool) → accepted t ≡ a → leb (length (blockOf t)) (length buffer) ≡ b → WritesBlock t buffer
-    go true true p q =
-        let is : writtenResults (writeBlock t buffer) ≡ (0, length (blockOf t)) = rw (p, q) in
-        record {
-          where-it-fits = λ a l. (is, rw (p, q));
-          room = (λ e. let z = other is e in absurd (omega arith), λ h. absurd (omega (arith, leb-true (length (blockOf t)) (length buffer) q)));
-          table = (λ e. let z = other is e in absurd (omega arith), λ h. let z : _≡_ {A = ℕ} 0 1 = cc in absurd (omega arith));
-          or-nothing = keeps;
-        }
-    go true false p q =
-        let is : writtenResults (writeBlock t buffer) ≡ (1, 0) = rw (p, q) in
-        record {
-          where-it-fits = λ a l. absurd (omega (arith, leb-false (length (blockOf t)) (length buffer) q));
-          room = (λ e. (p, leb-false (length (blockOf t)) (length buffer) q), λ h. is);
-          table = (λ e. let z = other is e in absurd (omega arith), λ h. let z : _≡_ {A = ℕ} 0 1 = cc in absurd (omega arith));
-          or-nothing = keeps;
-        }
-    go false b p q =
-        let is : writtenResults (writeBlock t buffer) ≡ (11, 0) = rw p in
-        record {
-          where-it-fits = λ a l. let z : _≡_ {A = ℕ} 0 1 = cc in absurd (omega arith);
-          room = (λ e. let z = other is e in absurd (omega arith), λ h. let a = h .0 in let z : _≡_ {A = ℕ} 0 1 = cc in absurd (omega arith));
-          table = (λ e. p, λ h. is);
-          or-nothing = keeps;
-        }
+writes t buffer =
+    record { where-it-fits = λ a l. rw (a, le-leb (length (blockOf t)) (length buffer) l) (refl, refl); or-nothing = writer (blockTests t) (blockOf t) buffer .or-nothing }
 
 pub blocks : Blocks
 blocks = record { one-to-one = one-to-one; reads = reads; writes = writes }

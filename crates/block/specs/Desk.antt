@@ -68,7 +68,3 @@ abbrev pub BlockRight : BlockRow → Type 0
 BlockRight (takes t n) = length (blockOf t) ≡ n
 BlockRight (gives s t) = (blockOf t ≡ s) × (tableResults (readBlock s) ≡ (0, 0, t))
 BlockRight (refuses s number place) = tableResults (readBlock s) ≡ (number, place, noTable)
-
-abbrev pub AllBlocksRight : List BlockRow → Type 0
-AllBlocksRight [] = Unit {0}
-AllBlocksRight (r ∷ rs) = BlockRight r × AllBlocksRight rs

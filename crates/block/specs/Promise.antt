@@ -3,7 +3,7 @@
 -- Assumes nothing.
 use mathlib.Core.Path.{_≡_}
 use mathlib.Core.Logic.{_↔_}
-use mathlib.Core.Bool.{true, false}
+use mathlib.Core.Bool.{true}
 use mathlib.Core.List.{List}
 use Prim.Native.Nat.{ℕ, _≤_, _<_}
 use lib.ListN.{length, getD}
@@ -41,14 +41,11 @@ pub record ReadsBlock (s : List ℕ) : Type 0 where
   -- a refusal, with its place and the all-zero table, exactly when it is the first fault
   pub refuses : (why : Refusal) (place : ℕ) → (tableResults (readBlock s) ≡ (number why, place, noTable)) ↔ (firstFault s ≡ faultAt why place)
 
--- what writing answers, and leaves in the buffer
+-- what writing answers, and leaves in the buffer; which refusal is given when is said with the order of every call's tests
 pub record WritesBlock (t : Table) (buffer : List ℕ) : Type 0 where
   -- the block of an accepted table is written wherever it fits, and past it every byte stays
   pub where-it-fits : accepted t ≡ true → length (blockOf t) ≤ length buffer
       → (writtenResults (writeBlock t buffer) ≡ (0, length (blockOf t))) × (writeBlockAfter t buffer ≡ over (blockOf t) buffer)
-  -- ROOM exactly when it is longer than the buffer, TABLE exactly when the table is not accepted
-  pub room : (writtenResults (writeBlock t buffer) ≡ (1, 0)) ↔ ((accepted t ≡ true) × (length buffer < length (blockOf t)))
-  pub table : (writtenResults (writeBlock t buffer) ≡ (11, 0)) ↔ (accepted t ≡ false)
   -- a refusal leaves every byte of the buffer
   pub or-nothing : (writtenResults (writeBlock t buffer) .0 ≡ 0 → ⊥) → writeBlockAfter t buffer ≡ buffer
 

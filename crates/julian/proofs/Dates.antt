@@ -1,7 +1,7 @@
 -- The pair that is written for an instant, and what a pair is read as, each with the reading that stands for the instant.
 -- Assumes nothing.
 use mathlib.Core.Path.{_≡_, refl, sym, ap, subst, _∙_}
-use mathlib.Core.Bool.{Bool, true, false, _&&_}
+use mathlib.Core.Bool.{true, _&&_}
 use mathlib.Core.List.{[], _∷_, _++_}
 use Prim.Native.Nat.{ℕ, _/_, _%_, _≤_, _<_}
 use native.Mathlib.Omega.{arith}
@@ -11,9 +11,8 @@ use borrow.Author.Tests.{le-leb, leb-true}
 use Rattle.laws.proofs.Cases.{and-l, and-r, join}
 use Rattle.months.proofs.Laws.{length-most, days-most}
 use Rattle.answer.specs.declared.Refusal.{Refusal}
-use Rattle.answer.specs.declared.Refusal.the-variants.{Range as RANGE, Ask as ASK, Table as TABLE}
-use Rattle.answer.specs.Refusals.{refusing}
-use Rattle.answer.proofs.Orders.{refused, none-refused, was-passed, refusing-map, number-some}
+use Rattle.answer.specs.declared.Refusal.the-variants.{Range as RANGE}
+use Rattle.answer.proofs.Orders.{none-refused, was-passed, refusing-map, number-some}
 use Rattle.leap.specs.declared.Table.{Table}
 use Rattle.leap.specs.Leap.{accepted}
 use Rattle.leap.proofs.Facts.{accepted-to}
@@ -99,21 +98,6 @@ pub given-by : (t : Table) (k : ℕ) (x : ℤ) (p : JulianDate) → writeJulian 
 given-by t k x p e r b =
     let g = write-given t k x p e .1 in
     record { known = g .known; fine = g .fine; reads = b; pair-is = same-pair (sym (write-from t k (g .known) (g .fine) r x b) ∙ e) }
-
--- RANGE: scale and table pass, and the instant is not in range
-pub range-given : (t : Table) (k : ℕ) (x : ℤ) → julianResults (writeJulian t x k) .0 ≡ 7 → (knownScale k ≡ true) × ((accepted t ≡ true) × (inRange t (scaleOf k) x ≡ false))
-unfolding writeJulian
-range-given t k x e = go (knownScale k) (accepted t) (inRange t (scaleOf k) x) e
-  where
-    go : (a b c : Bool) → julianResults (refusing Refused ((a, ASK) ∷ (b, TABLE) ∷ (c, RANGE) ∷ []) (Dated (pairOf (microOf (stampAt t (scaleOf k) x .reading))))) .0 ≡ 7 → (a ≡ true) × ((b ≡ true) × (c ≡ false))
-    go true true false e = (refl, (refl, refl))
-    go true true true e = absurd (omega arith)
-    go true false c e = absurd (omega arith)
-    go false b c e = absurd (omega arith)
-
-pub range-from : (t : Table) (k : ℕ) → knownScale k ≡ true → accepted t ≡ true → (x : ℤ) → inRange t (scaleOf k) x ≡ false → writeJulian t x k ≡ Refused RANGE
-unfolding writeJulian
-range-from t k known fine x e = none-refused Refused (scaleTests t k) _ (join known (join fine refl)) ∙ sym (refused _ _ e)
 
 -- ---- a microsecond that a scale is to show
 

@@ -1,22 +1,21 @@
 -- The promise of Julian dates is kept.
 -- Assumes nothing.
 use mathlib.Core.Path.{_≡_, refl, sym, ap, subst, _∙_}
-use mathlib.Core.Bool.{true, false, true≢false}
+use mathlib.Core.Bool.{true, false}
 use Prim.Native.Nat.{ℕ, _/_, _%_, _≤_}
 use native.Mathlib.Omega.{arith}
 use borrow.Author.Tests.{eqb-true, le-leb, leb-true}
 use lib.Dec.{eqb}
 use lib.IntN.{ℤ, pos}
 use lib.Ieee.{Float, fin, le, lt}
-use Rattle.laws.proofs.Cases.{pick, by-test, by-order}
+use Rattle.laws.proofs.Cases.{pick, by-order}
 use Rattle.leap.specs.declared.Table.{Table}
 use Rattle.labels.specs.declared.Reading.{Reading}
 use Rattle.labels.specs.Seconds.{microOf}
 use Rattle.stamp.specs.declared.Scale.{Scale}
 use Rattle.stamp.specs.Scales.{scaleOf, mostSecond}
-use Rattle.stamp.specs.Back.{inRange}
 use Rattle.stamp.specs.Stamps.{instantResults}
-use Rattle.stamp.proofs.Promise.{at-instant, in-range-reads}
+use Rattle.stamp.proofs.Promise.{at-instant}
 use Rattle.julian.specs.declared.JulianDate.{JulianDate}
 use Rattle.julian.specs.declared.JulianAnswer.the-variants.{Dated}
 use Rattle.julian.specs.Fraction.{day, isFraction, microsOf}
@@ -24,8 +23,8 @@ use Rattle.julian.specs.Dates.{julianResults, microRead, readJulian}
 use Rattle.julian.specs.Promise.{Writes, ReadAs, InAddedSecond, Near, Pairs}
 use Rattle.julian.proofs.Fraction.{close, fraction-fine, read-nearest}
 use Rattle.julian.proofs.Midnight.{midnight-value}
-use Rattle.julian.proofs.Dates.{at-pair, Given, write-given, write-from, given-by, range-given, range-from, read-given, read-from, plain-back, given-admitted, given-few}
-use Rattle.julian.proofs.Refusals.{number-given, number-from, range-given as read-range-given, range-from as read-range-from, second-given, second-from}
+use Rattle.julian.proofs.Dates.{at-pair, Given, write-given, write-from, given-by, read-given, read-from, plain-back, given-admitted, given-few}
+use Rattle.julian.proofs.Refusals.{second-given, second-from}
 use Rattle.julian.proofs.Added.{added-read, added-write}
 
 most-uniform : (k : ℕ) → 1 ≤ k → mostSecond (scaleOf k) ≡ 59
@@ -67,24 +66,9 @@ module _ (t : Table) where
           λ g. ap julianResults (write-from t k (le-leb k 3 (g .0)) (g .1) (g .2 .0) x (g .2 .1) ∙ ap Dated (sym (g .2 .2))),
         );
         written-near = λ k x p r w b. near t k x p r (given-by t k x p (at-pair _ p w) r b);
-        out-of-range = λ k x. (
-          λ e. let g = range-given t k x e in (leb-true k 3 (g .0), g .1 .0, λ r b. true≢false (sym (in-range-reads t (g .1 .0) (scaleOf k) x .1 (r, b)) ∙ g .1 .1)),
-          λ g.
-              let none : inRange t (scaleOf k) x ≡ false =
-              by-test (inRange t (scaleOf k) x) (λ e. let b = in-range-reads t (g .1) (scaleOf k) x .0 e in absurd (g .2 (b .0) (b .1))) (λ e. e) in
-              ap (λ a. julianResults a .0) (range-from t k (le-leb k 3 (g .0)) (g .1) x none),
-        );
         read-exactly = λ k p x. (
           λ e. let g = read-given t k p x (at-instant _ x e) in (leb-true k 3 (g .0), g .1, g .2, g .3),
           λ g. let s = g .3 in ap instantResults (read-from t k x (s .reading) (s .reads) (s .not-added) p (le-leb k 3 (g .0)) (g .1) (g .2) (s .shows)),
-        );
-        read-number = λ k p. (
-          λ e. let g = number-given t k p e in (leb-true k 3 (g .0), g .1, g .2),
-          λ g. number-from t k p (le-leb k 3 (g .0)) (g .1) (g .2),
-        );
-        read-range = λ k p. (
-          λ e. let g = read-range-given t k p e in (leb-true k 3 (g .0), g .1, g .2, g .3),
-          λ g. read-range-from t k p (le-leb k 3 (g .0)) (g .1) (g .2) (g .3),
         );
         read-no-second = λ k p. (
           λ e. let g = second-given t k p e in (leb-true k 3 (g .0), g .1, g .2, g .3, g .4),

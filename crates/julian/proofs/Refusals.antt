@@ -1,14 +1,14 @@
--- What a pair is refused for, each exactly when.
+-- A pair is refused with NOSECOND exactly when no reading shows it.
 -- Assumes nothing.
 use mathlib.Core.Path.{_≡_, refl, sym, ap, subst, _∙_}
-use mathlib.Core.Bool.{Bool, true, false, _&&_, true≢false}
+use mathlib.Core.Bool.{Bool, true, false, _&&_}
 use mathlib.Core.List.{[], _∷_}
 use Prim.Native.Nat.{ℕ, _≤_}
 use native.Mathlib.Omega.{arith}
 use borrow.Author.Tests.{le-leb, leb-true}
 use lib.Dec.{T, leb}
 use lib.IntN.{ℤ}
-use Rattle.laws.proofs.Cases.{both, by-test, and-r, join}
+use Rattle.laws.proofs.Cases.{by-test, and-r, join}
 use Rattle.answer.specs.declared.Refusal.the-variants.{Ask as ASK, Table as TABLE, Number as NUMBER, Range as RANGE, NoSecond as NOSECOND}
 use Rattle.answer.specs.Refusals.{refusing}
 use Rattle.leap.specs.declared.Table.{Table}
@@ -34,26 +34,6 @@ use Rattle.julian.proofs.Dates.{years-to, stands-at, read-from}
 abbrev judged : Bool → Bool → Bool → Bool → Bool → Bool → Bool → ℤ → ℕ
 judged a b c d e f g x = instantResults (refusing Refused ((a, ASK) ∷ (b, TABLE) ∷ (c, NUMBER) ∷ (d, NUMBER) ∷ (e, RANGE) ∷ (f, RANGE) ∷ (g, NOSECOND) ∷ []) (At x)) .0
 
-thirteen : (a b c d e f g : Bool) (x : ℤ) → judged a b c d e f g x ≡ 13 → (a ≡ true) × (b ≡ true) × ((c && d) ≡ false)
-thirteen true true false d e f g x h = (refl, refl, refl)
-thirteen true true true false e f g x h = (refl, refl, refl)
-thirteen true true true true true true true x h = absurd (omega arith)
-thirteen true true true true true true false x h = absurd (omega arith)
-thirteen true true true true true false g x h = absurd (omega arith)
-thirteen true true true true false f g x h = absurd (omega arith)
-thirteen true false c d e f g x h = absurd (omega arith)
-thirteen false b c d e f g x h = absurd (omega arith)
-
-seven : (a b c d e f g : Bool) (x : ℤ) → judged a b c d e f g x ≡ 7 → (a ≡ true) × (b ≡ true) × ((c && d) ≡ true) × ((e && f) ≡ false)
-seven true true true true false f g x h = (refl, refl, refl, refl)
-seven true true true true true false g x h = (refl, refl, refl, refl)
-seven true true true true true true true x h = absurd (omega arith)
-seven true true true true true true false x h = absurd (omega arith)
-seven true true true false e f g x h = absurd (omega arith)
-seven true true false d e f g x h = absurd (omega arith)
-seven true false c d e f g x h = absurd (omega arith)
-seven false b c d e f g x h = absurd (omega arith)
-
 six : (a b c d e f g : Bool) (x : ℤ) → judged a b c d e f g x ≡ 6 → (a ≡ true) × (b ≡ true) × (c ≡ true) × (d ≡ true) × (e ≡ true) × (f ≡ true) × (g ≡ false)
 six true true true true true true false x h = (refl, refl, refl, refl, refl, refl, refl)
 six true true true true true true true x h = absurd (omega arith)
@@ -63,16 +43,6 @@ six true true true false e f g x h = absurd (omega arith)
 six true true false d e f g x h = absurd (omega arith)
 six true false c d e f g x h = absurd (omega arith)
 six false b c d e f g x h = absurd (omega arith)
-
-thirteen-from : (a b c d e f g : Bool) (x : ℤ) → a ≡ true → b ≡ true → (c && d) ≡ false → judged a b c d e f g x ≡ 13
-thirteen-from a b true true e f g x p q r = absurd (true≢false r)
-thirteen-from a b true false e f g x p q r = rw (p, q)
-thirteen-from a b false d e f g x p q r = rw (p, q)
-
-seven-from : (a b c d e f g : Bool) (x : ℤ) → a ≡ true → b ≡ true → (c && d) ≡ true → (e && f) ≡ false → judged a b c d e f g x ≡ 7
-seven-from a b c d true true g x p q r s = absurd (true≢false s)
-seven-from a b c d true false g x p q r s = let w = both c d r in rw (p, q, w .0, w .1)
-seven-from a b c d false f g x p q r s = let w = both c d r in rw (p, q, w .0, w .1)
 
 module _ (t : Table) (k : ℕ) (p : JulianDate) where
   abbrev u : ℕ
@@ -95,28 +65,6 @@ module _ (t : Table) (k : ℕ) (p : JulianDate) where
   not-before : midnightInYears (p .midnight) ≡ true → microOf firstReading ≤ microRead p
   unfolding microRead dayNumber
   not-before e = omega (arith, first-micro, years (p .midnight) (subst T (sym e) tt) .range)
-
-  -- so the second test of the years asks for their last alone
-  one-end : (midnightInYears (p .midnight) && bounds) ≡ (midnightInYears (p .midnight) && leb u (microOf lastReading))
-  one-end = go (midnightInYears (p .midnight)) (leb u (microOf lastReading)) (λ e. le-leb (microOf firstReading) u (not-before e))
-    where
-      go : (a l : Bool) → (a ≡ true → leb (microOf firstReading) u ≡ true) → (a && (leb (microOf firstReading) u && l)) ≡ (a && l)
-      go true l h = rw (h refl)
-      go false l h = refl
-
-  pub number-given : ReadRefused t k p 13 → (knownScale k ≡ true) × (accepted t ≡ true) × ((isMidnight (p .midnight) && isFraction (p .fraction)) ≡ false)
-  number-given e = thirteen (knownScale k) (accepted t) (isMidnight (p .midnight)) (isFraction (p .fraction)) (midnightInYears (p .midnight)) bounds second x (sym answer-is ∙ e)
-
-  pub number-from : knownScale k ≡ true → accepted t ≡ true → (isMidnight (p .midnight) && isFraction (p .fraction)) ≡ false → ReadRefused t k p 13
-  number-from a b c = answer-is ∙ thirteen-from (knownScale k) (accepted t) (isMidnight (p .midnight)) (isFraction (p .fraction)) (midnightInYears (p .midnight)) bounds second x a b c
-
-  pub range-given : ReadRefused t k p 7 → (knownScale k ≡ true) × (accepted t ≡ true) × ((isMidnight (p .midnight) && isFraction (p .fraction)) ≡ true) × ((midnightInYears (p .midnight) && leb (microRead p) (microOf lastReading)) ≡ false)
-  range-given e =
-      let g = seven (knownScale k) (accepted t) (isMidnight (p .midnight)) (isFraction (p .fraction)) (midnightInYears (p .midnight)) bounds second x (sym answer-is ∙ e) in
-      (g .0, g .1, g .2, sym one-end ∙ g .3)
-
-  pub range-from : knownScale k ≡ true → accepted t ≡ true → (isMidnight (p .midnight) && isFraction (p .fraction)) ≡ true → (midnightInYears (p .midnight) && leb (microRead p) (microOf lastReading)) ≡ false → ReadRefused t k p 7
-  range-from a b c d = answer-is ∙ seven-from (knownScale k) (accepted t) (isMidnight (p .midnight)) (isFraction (p .fraction)) (midnightInYears (p .midnight)) bounds second x a b c (one-end ∙ d)
 
   pub second-given : ReadRefused t k p 6 → (knownScale k ≡ true) × (accepted t ≡ true) × IsPair p × (microRead p ≤ microOf lastReading) × ((y : ℤ) → Stands t k p y → ⊥)
   second-given e =

