@@ -1,7 +1,8 @@
 /* The frame of all that is measured: one set of inputs with the answers they should give, one way of counting, one printout.
    measure(peer, call, work) runs `work`, which takes all inputs once, and prints a line: peer, call, then per input the instructions,
-   divisions, memory accesses, cycles and nanoseconds (0 where this machine cannot tell). Counts come from the emulator's plugin
-   (count_plugin.c, whose file the variable COUNTS names) or, natively, from the processor's own counters. */
+   divisions, memory accesses, cycles and nanoseconds (0 where this machine cannot tell); measure_bytes adds a line with the same by byte.
+   Counts come from the emulator's plugin (count_plugin.c, whose file the variable COUNTS names) or, natively, from the processor's own
+   counters. */
 #ifndef FRAME_H
 #define FRAME_H
 #ifndef _GNU_SOURCE
@@ -150,9 +151,13 @@ static inline double median_ns(void (*work)(void))
 
 static inline void no_work(void) {}
 
-static inline void measure(const char *peer, const char *call, void (*work)(void))
+/* what one input takes */
+typedef struct { double of[COUNTERS + 1]; } Row;
+
+static inline Row taken(void (*work)(void))
 {
     static int opened;
+    Row row;
     if (!opened++)
         open_counters();
     counts();
@@ -163,12 +168,33 @@ static inline void measure(const char *peer, const char *call, void (*work)(void
     Counts b = counts();
     work();
     Counts c = counts();
-    printf("%s\t%s", peer, call);
     for (int k = 0; k < COUNTERS; k++)
-        printf("\t%.2f", ((double)(c.n[k] - b.n[k]) - (double)(b.n[k] - a.n[k])) / INPUTS);
-    printf("\t%.2f\n", plugin ? 0.0 : median_ns(work));
+        row.of[k] = ((double)(c.n[k] - b.n[k]) - (double)(b.n[k] - a.n[k])) / INPUTS;
+    row.of[COUNTERS] = plugin ? 0.0 : median_ns(work);
+    return row;
+}
+
+static inline void print_row(const char *peer, const char *call, Row row, size_t parts)
+{
+    printf("%s\t%s", peer, call);
+    for (int k = 0; k <= COUNTERS; k++)
+        printf("\t%.2f", row.of[k] / (double)parts);
+    printf("\n");
     fflush(stdout);
 }
+
+static inline void measure_bytes(const char *peer, const char *call, void (*work)(void), size_t bytes)
+{
+    char name[96];
+    Row row = taken(work);
+    print_row(peer, call, row, 1);
+    if (bytes > 1) {
+        snprintf(name, sizeof name, "%s, each of %zu bytes", call, bytes);
+        print_row(peer, name, row, bytes);
+    }
+}
+
+static inline void measure(const char *peer, const char *call, void (*work)(void)) { measure_bytes(peer, call, work, 1); }
 
 /* ---- answers that are not those expected */
 

@@ -8,7 +8,9 @@ static mundreff_label labels[INPUTS], label, next;
 static size_t place, length, block_size;
 static int64_t instant;
 static char text[MUNDREFF_TEXT_ROOM];
-static uint8_t bytes[256], block[MUNDREFF_BLOCK_ROOM];
+static uint8_t bytes[MUNDREFF_KERNEL_ROOM], block[MUNDREFF_BLOCK_ROOM], kernel[8192];
+static size_t kernel_size;
+static uint64_t byte_place;
 static double midnight, fraction;
 
 static uint32_t read_text(int i) { return mundreff_read_text(&table, MUNDREFF_UTC, texts[i], 26, &instant, &stamp); }
@@ -21,6 +23,8 @@ static uint32_t start(int i) { (void)i; return mundreff_start(&table, &label); }
 static uint32_t tick(int i) { return mundreff_tick(&table, &labels[i], &next); }
 static uint32_t read_block(int i) { (void)i; return mundreff_read_block(block, block_size, &place, &read_table); }
 static uint32_t write_block(int i) { (void)i; return mundreff_write_block(&table, bytes, sizeof bytes, &length); }
+static uint32_t read_kernel(int i) { (void)i; return mundreff_read_kernel(kernel, kernel_size, &byte_place, &read_table); }
+static uint32_t write_kernel(int i) { (void)i; return mundreff_write_kernel(&table, bytes, sizeof bytes, &length); }
 
 static int instant_right(int i) { return instant == instants[i]; }
 static int stamp_right(int i) { return !memcmp(&stamp, &stamps[i], sizeof stamp); }
@@ -33,7 +37,11 @@ static int next_right(int i) { return labels[i].second < 59 ? next.second == lab
 static int table_right(int i) { (void)i; return !memcmp(&read_table, &table, sizeof table); }
 static int block_right(int i) { (void)i; return length == 29 && !memcmp(bytes, block, 29); }
 
-#define ROW(name, call, right)                                                \
+/* the kernel written has the length of Bulletin C's and reads as the table */
+static int kernel_right(int i) { return length == 1032 && !mundreff_read_kernel(bytes, length, &byte_place, &read_table) && table_right(i); }
+
+/* a call's row, and where it takes or gives many bytes that of a byte */
+#define BYTES_ROW(name, call, right, bytes)                                   \
     static void all_##call(void) { EACH sink = call(i); }                     \
     static void row_##call(void)                                              \
     {                                                                         \
@@ -42,8 +50,9 @@ static int block_right(int i) { (void)i; return length == 29 && !memcmp(bytes, b
         if (wrong)                                                            \
             printf("Mundreff\t%s\tWRONG on %d inputs\n", name, wrong);        \
         else                                                                  \
-            measure("Mundreff", name, all_##call);                            \
+            measure_bytes("Mundreff", name, all_##call, bytes);               \
     }
+#define ROW(name, call, right) BYTES_ROW(name, call, right, 1)
 ROW("text to instant", read_text, read_right)
 ROW("instant to text, six digits", write_text, text_right)
 ROW("fields to instant", instant_of, instant_right)
@@ -54,6 +63,8 @@ ROW("table check (starting the clock)", start, start_right)
 ROW("tick", tick, next_right)
 ROW("block to table", read_block, table_right)
 ROW("table to block", write_block, block_right)
+BYTES_ROW("kernel to table", read_kernel, table_right, kernel_size)
+BYTES_ROW("table to kernel", write_kernel, kernel_right, length)
 
 int main(void)
 {
@@ -68,6 +79,10 @@ int main(void)
     mundreff_bulletin_c(&table);
     if (mundreff_write_block(&table, block, sizeof block, &block_size))
         return 1;
+    FILE *file = fopen("examples/leapseconds.tls", "rb");
+    if (!file)
+        return 1;
+    kernel_size = fread(kernel, 1, sizeof kernel, file);
     row_read_text();
     row_write_text();
     row_instant_of();
@@ -78,5 +93,7 @@ int main(void)
     row_tick();
     row_read_block();
     row_write_block();
+    row_read_kernel();
+    row_write_kernel();
     return 0;
 }

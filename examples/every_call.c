@@ -46,6 +46,28 @@ static void tables(void)
     expect("read_block refused", mundreff_read_block(block, 28, &place, &read) == MUNDREFF_CUT && place == 28 && SAME(read, no_table));
 }
 
+static const char small_kernel[] = "\\begindata\nDELTET/DELTA_AT = ( 10, @1972-JAN-1\n                    11, @1972-JUL-1 )\n\\begintext\n";
+
+static void kernels(void)
+{
+    const size_t size = sizeof small_kernel - 1;
+    uint8_t kernel[128], before[128];
+    const uint8_t *small = (const uint8_t *)small_kernel;
+    size_t length = 9;
+    uint64_t place = 9;
+    mundreff_table read;
+    USED(read);
+    expect("read_kernel", mundreff_read_kernel(small, size, &place, &read) == MUNDREFF_OK && place == 0 && read.count == 2 && read.months[1] == 6 && read.offsets[1] == 11 && read.months[2] == 0 && read.offsets[63] == 0);
+    USED(kernel);
+    USED(before);
+    expect("write_kernel refused", mundreff_write_kernel(&read, kernel, size - 1, &length) == MUNDREFF_ROOM && length == 0 && SAME(kernel, before));
+    expect("write_kernel", mundreff_write_kernel(&read, kernel, sizeof kernel, &length) == MUNDREFF_OK && length == size && memcmp(kernel, small, size) == 0 && memcmp(kernel + size, before, sizeof kernel - size) == 0);
+    expect("read_kernel refused", mundreff_read_kernel(small, 20, &place, &read) == MUNDREFF_KERNEL && place == 20 && SAME(read, no_table));
+    kernel[31] = '2';
+    expect("a table that is none", mundreff_read_kernel(kernel, length, &place, &read) == MUNDREFF_TABLE && place == 0 && SAME(read, no_table));
+    expect("write_kernel of it", mundreff_write_kernel(&read, kernel, sizeof kernel, &length) == MUNDREFF_TABLE && length == 0);
+}
+
 /* offsets below zero: 12 steps down from 10 */
 static void below_zero(void)
 {
@@ -122,18 +144,22 @@ static void no_bytes(void)
     mundreff_table read;
     mundreff_stamp stamp;
     size_t place = 9, length = 9;
+    uint64_t at = 9;
     int64_t instant = 9;
+    expect("no kernel", mundreff_read_kernel(NULL, 0, &at, &read) == MUNDREFF_KERNEL && at == 0 && SAME(read, no_table));
+    expect("no room for a kernel", mundreff_write_kernel(&table, NULL, 0, &length) == MUNDREFF_ROOM && length == 0);
     expect("no block", mundreff_read_block(NULL, 0, &place, &read) == MUNDREFF_CUT && place == 0 && SAME(read, no_table));
     expect("no room for a block", mundreff_write_block(&table, NULL, 0, &length) == MUNDREFF_ROOM && length == 0);
     expect("no text", mundreff_read_text(&table, MUNDREFF_UTC, NULL, 0, &instant, &stamp) == MUNDREFF_SHAPE && instant == 0 && SAME(stamp, no_stamp));
     expect("no room for a text", mundreff_write_text(&table, added, MUNDREFF_MONTH_NUMBER, MUNDREFF_UTC, 6, NULL, 0, &length) == MUNDREFF_ROOM && length == 0);
 }
 
-/* 52 gaps of 64 months, whose numbers take two bytes, and 11 of 8,192, whose numbers take three: the longest block there is */
+/* 52 gaps of 64 months, whose numbers take two bytes, and 11 of 8,192, whose numbers take three: the longest block there is. Offsets that go
+   down, to -53, make the longest kernel. */
 static void lengths(void)
 {
     mundreff_table longest;
-    uint8_t block[MUNDREFF_BLOCK_ROOM];
+    uint8_t block[MUNDREFF_BLOCK_ROOM], kernel[MUNDREFF_KERNEL_ROOM];
     char text[MUNDREFF_TEXT_ROOM];
     size_t length = 9;
     memset(&longest, 0, sizeof longest);
@@ -145,6 +171,10 @@ static void lengths(void)
     }
     expect("the longest block", mundreff_write_block(&longest, block, sizeof block, &length) == MUNDREFF_OK && length == MUNDREFF_BLOCK_ROOM);
     expect("it is no shorter", mundreff_write_block(&longest, block, sizeof block - 1, &length) == MUNDREFF_ROOM);
+    for (int k = 1; k < 64; k++)
+        longest.offsets[k] = 10 - k;
+    expect("the longest kernel", mundreff_write_kernel(&longest, kernel, sizeof kernel, &length) == MUNDREFF_OK && length == MUNDREFF_KERNEL_ROOM);
+    expect("it is no shorter either", mundreff_write_kernel(&longest, kernel, sizeof kernel - 1, &length) == MUNDREFF_ROOM);
     expect("the longest text", mundreff_write_text(&table, added, MUNDREFF_MONTH_NAME, MUNDREFF_UTC, 6, text, sizeof text, &length) == MUNDREFF_OK && length == MUNDREFF_TEXT_ROOM && memcmp(text, "2016 DEC 31 23:59:60.000000", 27) == 0);
 }
 
@@ -153,14 +183,15 @@ static int is_named(uint32_t number, const char *name) { return strcmp(mundreff_
 static void names(void)
 {
     expect("names of the refusals", is_named(MUNDREFF_ROOM, "ROOM") && is_named(MUNDREFF_SHAPE, "SHAPE") && is_named(MUNDREFF_YEAR, "YEAR") && is_named(MUNDREFF_DATE, "DATE") && is_named(MUNDREFF_CLOCK, "CLOCK") && is_named(MUNDREFF_NOSECOND, "NOSECOND") && is_named(MUNDREFF_RANGE, "RANGE"));
-    expect("and of the others", is_named(MUNDREFF_ASK, "ASK") && is_named(MUNDREFF_CUT, "CUT") && is_named(MUNDREFF_GROUPS, "GROUPS") && is_named(MUNDREFF_TABLE, "TABLE") && is_named(MUNDREFF_TAIL, "TAIL") && is_named(MUNDREFF_NUMBER, "NUMBER"));
-    expect("no refusal, and no number", is_named(MUNDREFF_OK, "OK") && is_named(14, "UNKNOWN") && is_named(0xffffffff, "UNKNOWN"));
+    expect("and of the others", is_named(MUNDREFF_ASK, "ASK") && is_named(MUNDREFF_CUT, "CUT") && is_named(MUNDREFF_GROUPS, "GROUPS") && is_named(MUNDREFF_TABLE, "TABLE") && is_named(MUNDREFF_TAIL, "TAIL") && is_named(MUNDREFF_NUMBER, "NUMBER") && is_named(MUNDREFF_KERNEL, "KERNEL"));
+    expect("no refusal, and no number", is_named(MUNDREFF_OK, "OK") && is_named(15, "UNKNOWN") && is_named(0xffffffff, "UNKNOWN"));
 }
 
 int main(void)
 {
     expect("sizes", sizeof(mundreff_table) == 516 && sizeof(mundreff_stamp) == 32 && sizeof(mundreff_label) == 24);
     tables();
+    kernels();
     below_zero();
     stamps();
     texts();

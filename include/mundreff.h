@@ -2,12 +2,12 @@
    Link with target/staticlib/libmundreff.a (x86-64 Linux), which tools/build-archive makes. It keeps no state and allocates nothing.
 
    Every call returns the number of the refusal, MUNDREFF_OK (0) on success, and writes every output on every call: on a refusal they are
-   all zero (mundreff_read_block also gives the place). A lent byte buffer is written on success only, and past the reported length never.
+   all zero (a reader of tables also gives the place). A lent byte buffer is written on success only, and past the reported length never.
    Where several things are wrong, the first in the call's list decides.
 
    Pointers. A buffer of no bytes may be NULL (with size or room 0); no other pointer may. An output lies apart from the other outputs, from
-   the table and from every input, whole or in part, with one exception: the two labels of mundreff_tick may be one. So a block that lies
-   in a mundreff_table is not read into that table, and a table's own bytes are not written over while it is read. Inputs may overlap.
+   the table and from every input, whole or in part, with one exception: the two labels of mundreff_tick may be one. So a block or a kernel
+   that lies in a mundreff_table is not read into that table, and a table's own bytes are not written over while it is read. Inputs may overlap.
    What overlaps otherwise is not answered for. */
 #ifndef MUNDREFF_H
 #define MUNDREFF_H
@@ -32,9 +32,10 @@ enum {
     MUNDREFF_ASK = 8,      /* unknown scale, picture or digit number */
     MUNDREFF_CUT = 9,      /* the block ends before a number of it does */
     MUNDREFF_GROUPS = 10,  /* a number of the block is too long, or not in its shortest form */
-    MUNDREFF_TABLE = 11,   /* the table is not as described, or the block's count, gap or month is out of range */
+    MUNDREFF_TABLE = 11,   /* the table, given or read, is not as described; or the block's count, gap or month is out of range */
     MUNDREFF_TAIL = 12,    /* a byte after the block's last entry */
-    MUNDREFF_NUMBER = 13   /* the midnight is not a whole number and a half, or the fraction is not at least 0 and below 1 */
+    MUNDREFF_NUMBER = 13,  /* the midnight is not a whole number and a half, or the fraction is not at least 0 and below 1 */
+    MUNDREFF_KERNEL = 14   /* the file is no leap-seconds kernel, or is longer than 65,536 bytes */
 };
 
 /* The scales. All but UTC are uniform: TDT (now TT) is TAI + 32.184 s, GPS is TAI - 19 s, also before 1980. Each scale has the labels from
@@ -49,9 +50,9 @@ enum {
     MUNDREFF_MONTH_NAME = 2    /* 1986 APR 12 16:31:09 */
 };
 
-/* Bytes that are always enough: the longest text has 27, in picture 2 with six digits, and the longest block of a table 138.
-   Add one to a text's for a final zero of your own. */
-enum { MUNDREFF_TEXT_ROOM = 27, MUNDREFF_BLOCK_ROOM = 138 };
+/* Bytes that are always enough: the longest text has 27, in picture 2 with six digits, the longest block of a table 138 and the longest kernel
+   2,362. Add one to a text's or a kernel's for a final zero of your own. */
+enum { MUNDREFF_TEXT_ROOM = 27, MUNDREFF_BLOCK_ROOM = 138, MUNDREFF_KERNEL_ROOM = 2362 };
 
 /* 1 to 64 entries, each the month (January 1972 is 0) from whose first day TAI-UTC is that offset in seconds. The first is month 0 with 10,
    months rise and end at 96,335 (December 9999) at the latest, offsets go up or down by 1, unused places are zero. Every call checks it.
@@ -94,13 +95,29 @@ uint32_t mundreff_bulletin_c(mundreff_table *table);
    before it, plus 1 where the offset goes down. Each number is in groups of seven bits, lowest group first, a group to a byte, the top bit
    set where more follow: at most three bytes, the shortest form. 03 0C 0C: three entries, two steps of six months, each up.
    On a refusal `place` is that of the first byte of the number at fault, for TAIL of the first byte too many; where a number is missing
-   altogether it is `size`, so do not read block[place] unasked. On success it is 0.
+   altogether it is `size`, so do not read block[place] unchecked. On success it is 0.
    Refusals: CUT, GROUPS, TABLE and TAIL, whichever comes first from the left. */
 uint32_t mundreff_read_block(const uint8_t *block, size_t size, size_t *place, mundreff_table *table);
 
 /* Writes a table as a block, and gives its length.
    Refusals: TABLE, ROOM. */
 uint32_t mundreff_write_block(const mundreff_table *table, uint8_t *out, size_t room, size_t *length);
+
+/* Reads a leap-seconds text kernel into a table. Text, which may be anything, goes up to a line that has only `\begindata`; data follow, up to
+   a line that has only `\begintext` or to the end, and so on. Data are assignments, NAME = ITEM or NAME = ( ITEM, ITEM .. ), also with +=; an
+   item is a text in single quotes or a run of other bytes. They are passed over but for ours, which stands there once and with = only:
+   DELTET/DELTA_AT = ( 10, @1972-JAN-1 .. ), pairs of TAI-UTC and the first day of the month from which it holds, oldest first. Letters of a
+   month may be small, the day may be 01, a number may have a sign and zeros; commas and line ends are free between items.
+   Any size is answered, but only the first 65,536 bytes are read: where they hold no fault and the file is longer, it is KERNEL at 65,536.
+   With KERNEL `place` is that of the first byte with which no kernel can continue, but of a bad date (also one before 1972 or not the first of
+   a month) that of its @, and of our name's second assignment that of the name; where the file ends too soon it is `size`, so do not read
+   file[place] unchecked. With TABLE, also for over 64 pairs, and on success it is 0.
+   Refusals: KERNEL, TABLE. */
+uint32_t mundreff_read_kernel(const uint8_t *file, size_t size, uint64_t *place, mundreff_table *table);
+
+/* Writes a table as a kernel, from `\begindata` to `\begintext`, a pair to a line, with no final zero, and gives its length.
+   Refusals: TABLE, ROOM. */
+uint32_t mundreff_write_kernel(const mundreff_table *table, uint8_t *out, size_t room, size_t *length);
 
 /* The instant of a stamp.
    Refusals: ASK, TABLE, YEAR, DATE, CLOCK, NOSECOND. */
@@ -149,7 +166,7 @@ static inline uint32_t mundreff_tick(const mundreff_table *table, const mundreff
 /* The name of a refusal, without MUNDREFF_; `UNKNOWN` for a number that is none. */
 static inline const char *mundreff_refusal_name(uint32_t number)
 {
-    static const char *const names[] = {"OK", "ROOM", "SHAPE", "YEAR", "DATE", "CLOCK", "NOSECOND", "RANGE", "ASK", "CUT", "GROUPS", "TABLE", "TAIL", "NUMBER"};
+    static const char *const names[] = {"OK", "ROOM", "SHAPE", "YEAR", "DATE", "CLOCK", "NOSECOND", "RANGE", "ASK", "CUT", "GROUPS", "TABLE", "TAIL", "NUMBER", "KERNEL"};
     return number < sizeof names / sizeof *names ? names[number] : "UNKNOWN";
 }
 

@@ -17,7 +17,7 @@ import struct
 import sys
 
 import second
-from second import BULLETIN_C, DAY, DAY_SECONDS, GPS, LAST_MONTH, NOON_2000, PLACES, SECOND, TAI, TDT, UTC
+from second import BULLETIN_C, DAY, DAY_SECONDS, GPS, LAST_MONTH, LONGEST_LINE, MOST_ROOM, NOON_2000, PLACES, SECOND, TAI, TDT, UTC
 from second import Label, Table
 
 SCALES = (UTC, TAI, TDT, GPS)
@@ -404,6 +404,250 @@ def random_block(dice, table):
 
 
 # ---------------------------------------------------------------------------
+# Kernels
+
+BEGIN_DATA = b'\\begindata\n'
+OUR_NAME = second.OUR_NAME
+OURS = OUR_NAME + b'=(10,@1972-JAN-1)'
+BAD_KERNELS = (  # each with the place of its fault
+    (b'', 0),
+    (BEGIN_DATA, 11),
+    (BEGIN_DATA + OUR_NAME, 26),
+    (BEGIN_DATA + OUR_NAME + b'=(10.0', 30),
+    (BEGIN_DATA + OUR_NAME + b'=(10)', 30),
+    (BEGIN_DATA + OUR_NAME + b'=(10 -11', 31),
+    (BEGIN_DATA + OUR_NAME + b'=(10@1972-JAN-1)', 30),
+    (BEGIN_DATA + OUR_NAME + b'+=(', 26),
+    (BEGIN_DATA + OUR_NAME + b'=(10,@1971', 31),
+    (BEGIN_DATA + OUR_NAME + b'=(10,@197', 35),
+    (BEGIN_DATA + OUR_NAME + b'=(10,@1972-JAN-1(', 42),
+    (BEGIN_DATA + OURS + OURS, 43),
+    (BEGIN_DATA + OURS + OUR_NAME, 58),
+    (BEGIN_DATA + OURS + OUR_NAME + b'(', 43),
+    (BEGIN_DATA + OURS + b'\n\\begindata', 50),
+    (BEGIN_DATA + OURS + b'\\begintext', 43),
+    (BEGIN_DATA + OURS + b'A=1,2', 46),
+)
+GOOD_KERNELS = (BEGIN_DATA + OURS + b'\n\\begintext', BEGIN_DATA + OURS + b"A='x'B=(1)C=''")
+PUBLISHED_TEXT = b"""KPL/LSK
+
+Leapseconds kernel file
+===========================================================================
+
+The variables are those of the difference between ET and UTC:
+ET - UTC  =  DELTA_T_A + DELTA_AT + K sin E, where E = M + EB sin M.
+A line with \\begindata and more is text, and so is DELTET/DELTA_AT = ( 1 ).
+
+"""
+PUBLISHED_CONSTANTS = b"""
+DELTET/DELTA_T_A       =   32.184
+DELTET/K               =    1.657D-3
+DELTET/EB              =    1.671D-2
+DELTET/M               = ( 6.239996D0 1.99096871D-7 )
+DELTET/SOURCES         = ( 'Bulletin C', 'the observatory''s list' )
+
+"""
+
+
+def published_kernel():
+    """Bulletin C as the ephemeris people publish it."""
+    pairs = [b'%d,   @%d-%s-1' % (offset, year, second.MONTH_NAMES[month - 1]) for year, month, offset in BULLETIN_C]
+    ours = OUR_NAME + b'        = ( ' + (b'\n' + b' ' * 27).join(pairs) + b' )\n\n'
+    return PUBLISHED_TEXT + BEGIN_DATA + PUBLISHED_CONSTANTS + ours + b'\\begintext\n\nEnd of the file.\n'
+
+
+def foreign_kernel():
+    """The same table with carriage returns and tabs, more data before and behind, and all that is free in a date."""
+    names = [second.MONTH_NAMES[month - 1] for _, month, _ in BULLETIN_C]
+    cases = [(name.lower(), name.capitalize(), name, name[:2] + name[2:].lower())[i % 4] for i, name in enumerate(names)]
+    pairs = [b'%s%d\t@%d-%s-%s' % (b'+00'[:i % 4], offset, year, cases[i], (b'1', b'01')[i % 2])
+             for i, (year, _, offset) in enumerate(BULLETIN_C)]
+    before = b" \\begindata\t\nFILES = ( 'a(1).tls', 'it''s',,'' )\nFILES += 'more = ) @'\n\\begintext \nText again: \\begintext\n"
+    ours = OUR_NAME + b'\t=\n(,' + b',\n'.join(pairs) + b'\n,)'
+    behind = b'X=-1.5E+3\nDELTET/DELTA_AT2 = ( DELTET/DELTA_AT @1971-JAN-2 + )\n\t\\begintext\n'
+    return (before + BEGIN_DATA + ours + behind + BEGIN_DATA + b'Y = ( 1\n2 )').replace(b'\n', b'\r\n')
+
+
+SMALL_KERNEL = b"\\begindata\nA='b'C+=(d)\nDELTET/DELTA_AT=(10,@1972-jan-01)\n\\begintext"
+BYTES_THAT_TELL = b"\n ,()='+@\\-01A\x00\x80"
+
+
+def damaged_kernels(file):
+    """The file wrong at each place."""
+    for place in range(len(file)):
+        for byte in BYTES_THAT_TELL:
+            if byte != file[place]:
+                yield file[:place] + bytes([byte]) + file[place + 1:]
+        yield file[:place]
+        yield file[:place] + file[place + 1:]
+        for byte in b"\n '1\\":
+            yield file[:place] + bytes([byte]) + file[place:]
+
+
+def kernel_of_pairs(*pairs):
+    return BEGIN_DATA + OUR_NAME + b'=(' + b','.join(pairs) + b')'
+
+
+WHOLE_NUMBERS = (b'+10', b'0010', b'+' + b'0' * 300 + b'10', b'-10', b'-0', b'0', b'9', b'11', b'010', b'1', b'100', b'2147483658',
+                 b'4294967306', b'-4294967286', b'18446744073709551626', b'1' + b'0' * 299 + b'10', b'9' * 400)
+NO_WHOLE_NUMBERS = (b'', b'+', b'-', b'+-10', b'--10', b'10.', b'10.0', b'.10', b'1e1', b'10D0', b'0x0A', b'1 0', b'1,0', b"'10'", b'10+',
+                    b'10-', b'(10)', b'10 10', b'\xb9\xb0', b'@10', b'ten')
+DATES_OF_KERNEL = (b'@1972-JAN-1', b'@1972-JAN-01', b'@1972-jan-1', b'@1972-jAn-01', b'@1972-FEB-1', b'@9999-DEC-1', b'@2000-dec-01')
+NO_DATES = (b'', b'@', b'@1', b'@197', b'@1972', b'@1972-', b'@1972-J', b'@1972-JA', b'@1972-JAN', b'@1972-JAN-', b'@1972-JAN-0',
+            b'@1972-JAN-00', b'@1972-JAN-2', b'@1972-JAN-12', b'@1972-JAN-011', b'@1972-JAN-1x', b'@1972-JAN-1-', b'@1972-JAN-1.',
+            b'@1972-JAN-1@', b'@1972-JAN-1+', b'@1972-JAN-1/00', b'@1972-JAN-1"', b"@1972-JAN-1'", b'@1972-JAN-1=', b'@1972-JAN-1(',
+            b'@1972-JAN-1\\', b'@1972-JAN-1\x80', b'@1972-JAN\x80', b'@1972-JAN=', b'@1972-01-1', b'@1972-JAM-1', b'@1972-JUM-1',
+            b'@1972-MAI-1', b'@1972-JANUARY-1', b'@1972-J AN-1', b'@1972 JAN 1', b'@1972.JAN.1', b'@1971-DEC-1', b'@1969-JAN-1',
+            b'@0972-JAN-1', b'@2971-JAN-1', b'@10000-JAN-1', b'@972-JAN-1', b'@+1972-JAN-1', b'@19720-JAN-1', b'@ 1972-JAN-1',
+            b'@@1972-JAN-1', b'1972-JAN-1', b'x@1972-JAN-1', b"'@1972-JAN-1'", b'@\xb91972-JAN-1')
+MONTHS_BEGUN = [name[:size] + other for name in second.MONTH_NAMES for size in (1, 2, 3) for other in (b'', b'Q')]
+AFTER_A_NAME = (b'', b' ', b'\n', b'+', b'+ =', b'+=', b'=', b'==', b'=+', b'=)', b'=,', b'=(', b'=()', b'=(,)', b'=\\', b"='", b"='\n'",
+                b"='\\'", b"=''", b"='''", b"=''''", b"='x'y", b"='x'(", b"='x'\\", b"='x' \\begintext", b"='x'\n\\begintext", b'=1',
+                b'=1(', b'=1)', b"=1'", b'=1=', b'=1\\', b'=1\x80', b'=1\x00', b'=1+@2', b'=(1', b'=(1)', b"=(1'x')", b"=('x'1)",
+                b"=('x''y')", b"=('x' 'y')", b"=('x')'", b"='x''\\'", b"='x''\n'", b'=((1))', b'=(1)2', b'=(1)2=3', b'=(=)', b'=(1=)',
+                b'=(\\begintext\n', b'=(1\n\\begintext\n', b'=\n\\begintext\n', b'\n\\begintext\n', b'(', b')', b',', b"'", b'@', b'\\',
+                b'\x7f')
+TEXT_LINES = (b'\\begindata', b' \t\r\\begindata\r \t', b'x\\begindata', b'\\begindata x', b'\\begindat', b'\\begindataa', b'\\BEGINDATA',
+              b'begindata', b'\\begindata\\begindata', b'\\begintext', b'\\\\begindata', b'\\begindata\x00', b'\\begindata\x0b',
+              b"'\\begindata'")
+DATA_LINES = (b'\\begintext', b' \t\r\\begintext\r \t', b'x\\begintext', b'\\begintext x', b'\\begintex', b'\\begintextt', b'\\BEGINTEXT',
+              b'\\begin text', b'\\begindata', b' \\begindata', b'\\', b'\\\\begintext', b'\\begintext\\begintext', b'\\begintext\x00',
+              b'x=1 \\begintext', b'x=1\\begintext')
+
+
+def kernels_of_grammar():
+    """Each part of the grammar, right and wrong, before our assignment or behind it."""
+    for number in WHOLE_NUMBERS + NO_WHOLE_NUMBERS:
+        yield kernel_of_pairs(number + b' @1972-JAN-1')
+        yield kernel_of_pairs(b'10 @1972-JAN-1', number + b' @1972-FEB-1')
+    for date in DATES_OF_KERNEL + NO_DATES + tuple(b'@1972-%s-1' % begun for begun in MONTHS_BEGUN):
+        yield kernel_of_pairs(b'10 ' + date)
+        yield kernel_of_pairs(b'10 @1972-JAN-1', b'11 ' + date)
+        yield BEGIN_DATA + OUR_NAME + b'=(10,' + date
+    for name in (b'A', b'DELTET/DELTA_A', b'DELTET/DELTA_ATT', b'deltet/delta_at', b'!"#$%&*-./09:;<>?AZ[]^_`az{|}~', b'10', OUR_NAME):
+        for after in AFTER_A_NAME:
+            yield BEGIN_DATA + OURS + name + after
+            yield BEGIN_DATA + name + after
+    for line in TEXT_LINES:
+        yield line + b'\n' + OURS
+        yield b'text\n' + line
+    for line in DATA_LINES:
+        yield BEGIN_DATA + OURS + b'\n' + line + b'\n) text'
+        yield BEGIN_DATA + OURS + line
+        yield BEGIN_DATA + OURS + b'\n' + line
+        yield BEGIN_DATA + line + b'\n' + BEGIN_DATA + OURS
+    for byte in range(256):
+        yield bytes([byte]) + b'\n' + BEGIN_DATA + b"A='" + bytes([byte]) + b"'" + OURS
+        yield BEGIN_DATA + OURS + bytes([byte])
+        yield BEGIN_DATA + b'A=(1' + bytes([byte]) + b')' + OURS
+
+
+def kernels_of_tables():
+    """Pairs that are no table, and as many as a table has or more."""
+    for pairs in ((b'11 @1972-JAN-1',), (b'10 @1972-FEB-1',), (b'10 @1972-JAN-1', b'10 @1972-JAN-1'),
+                  (b'10 @1972-JAN-1', b'11 @1972-JAN-1'), (b'10 @1972-JAN-1', b'12 @1972-FEB-1'), (b'10 @1972-JAN-1', b'9 @9999-DEC-1'),
+                  (b'10 @1972-JAN-1', b'11 @1973-JAN-1', b'12 @1972-DEC-1')):
+        yield kernel_of_pairs(*pairs)
+    for step in (1, -1):
+        for count in (63, 64, 65, 66, 130):
+            yield kernel_of_pairs(*(b'%d @%d-JAN-1' % (10 + step * i, 1972 + i) for i in range(count)))
+    many = [b'%d @%d-JAN-1' % (10 + i, 1972 + i) for i in range(65)]
+    yield kernel_of_pairs(*many)[:-1]
+    yield kernel_of_pairs(*many, b'75 @2037-JAN-2')
+    yield kernel_of_pairs(*many) + OURS
+
+
+LIMIT = second.MOST_KERNEL_BYTES
+LONGEST_KERNEL = (LONGEST_LINE - len('read_kernel ')) // 2
+
+
+def to_size(size, begin, end):
+    """A file of this size: text, one line of it long, then data."""
+    return b'x' * (size - 1 - len(begin) - len(end)) + b'\n' + begin + end
+
+
+def kernels_of_limit():
+    """Long files, only a few, since each is a line of 131,000 bytes: what counts is on both sides of the limit."""
+    good = BEGIN_DATA + OURS
+    for size in (LIMIT, LIMIT + 1):
+        yield to_size(size, good, b'')
+    yield to_size(LIMIT, good, OUR_NAME) + b'='
+    yield to_size(LIMIT, BEGIN_DATA, OUR_NAME + b'=(10 @1972-J') + b'X'
+    yield to_size(LIMIT, good, b'').ljust(LONGEST_KERNEL, b'(')
+
+
+# Random kernels
+
+FREE = (b'', b'', b' ', b' ', b'\n', b'\t', b'\r\n', b'  \n ')
+APART = (b' ', b',', b', ', b'\n', b' ,\n', b'\r\n\t', b',,')
+OTHER_ASSIGNMENTS = (b'A=1', b"B='x'", b"C=''", b'D=(1)', b'E+=(1,2)', b"F = ( 'it''s' )", b'DELTET/K = 1.657D-3',
+                     b'DELTET/DELTA_A=@1972-JAN-2', b'DELTET/M = ( 6.239996D0 1.99096871D-7 )', b'DELTET/DELTA_ATX=+1', b"G='(=),@+'")
+TEXTS = (b'', b'text\n', b'KPL/LSK\n\n', b'x\\begindata\n', b'\\begindata x\n', b'\xff\x00(\n')
+FRAGMENTS = (BEGIN_DATA, b'\\begintext\n', b'\\begindata', b'\\begintext', b'\\', OUR_NAME, OUR_NAME + b'=(', OURS, b'=', b'+=', b'+',
+             b'(', b')', b',', b' ', b'\n', b'\t', b'\r', b"'", b"''", b'A', b'A=', b'A=(', b'10', b'11', b'-1', b'@1972-JAN-1',
+             b'@1972-FEB-01', b'@1971-DEC-1', b'@197', b'@', b'10 @1972-JAN-1', b'.', b'\x00', b'\x7f', b'\x80', b'\xff')
+
+
+def random_kernel_number(dice, offset):
+    return dice.pick((b'%d', b'%d', b'%+d', b'%03d', b'%+012d')) % (offset + (1 if dice.chance(0.01) else 0))
+
+
+def random_kernel_date(dice, month):
+    name = second.MONTH_NAMES[month % 12]
+    name = dice.pick((name, name, name.lower(), name.capitalize(), name.swapcase()))
+    return b'@%d-%s-%s' % (1972 + month // 12, name, dice.pick((b'1', b'1', b'01')))
+
+
+def random_assignment(dice, table):
+    """Ours, with a pair for each entry of the table."""
+    between = dice.pick(APART)
+    parts = []
+    for month, offset in zip(table.used_months, table.offsets):
+        parts.append(random_kernel_number(dice, offset) + between + random_kernel_date(dice, month))
+    pairs = dice.pick(FREE) + dice.pick(APART).join(parts) + dice.pick(FREE)
+    return OUR_NAME + dice.pick(FREE) + b'=' + dice.pick(FREE) + b'(' + pairs + b')'
+
+
+def random_good_kernel(dice, table):
+    parts = [dice.pick(OTHER_ASSIGNMENTS) + dice.pick((b' ', b'\n', b'\r\n')) for _ in range(dice.below(4))]
+    parts.insert(dice.below(len(parts) + 1), random_assignment(dice, table) + dice.pick(FREE))
+    if dice.chance(0.3):
+        parts.insert(dice.below(len(parts) + 1), b'\n\\begintext\n' + dice.pick(TEXTS) + dice.pick(FREE).replace(b'\n', b'') + BEGIN_DATA)
+    end = dice.pick((b'', b'\n', b'\n\\begintext', b'\n \\begintext\r\n' + dice.pick(TEXTS)))
+    return dice.pick(TEXTS) + BEGIN_DATA + b''.join(parts) + end
+
+
+def damaged_kernel(dice, file):
+    """The file with one place changed, more often near its end."""
+    place = dice.below(len(file)) if dice.chance(0.5) else max(0, len(file) - 1 - dice.below(60))
+    kind = dice.below(6)
+    if kind == 0:
+        return file[:place]
+    if kind == 1:
+        return file[:place] + file[place + 1:]
+    if kind == 2:
+        return file[:place] + bytes([dice.below(256)]) + file[place + 1:]
+    if kind == 3:
+        return file[:place] + bytes([dice.pick(BYTES_THAT_TELL)]) + file[place + 1:]
+    return file[:place] + dice.pick(FRAGMENTS) + file[place + dice.below(2) * dice.below(12):]
+
+
+def random_kernel(dice, table):
+    if dice.chance(0.1):
+        return dice.pick((b'', BEGIN_DATA, BEGIN_DATA + OURS)) + b''.join(dice.pick(FRAGMENTS) for _ in range(dice.below(12)))
+    small = dice.pick((T, N, table_of_steps([], []), table_of_one_step(dice.between(1, LAST_MONTH), 1)))
+    file = random_good_kernel(dice, edges_of(table) if dice.chance(0.1) else small)
+    for _ in range(dice.pick((0, 1, 1, 1, 2))):
+        file = damaged_kernel(dice, file)
+    return behind_long_text(dice, file) if dice.chance(0.001) else file
+
+
+def behind_long_text(dice, file):
+    """The limit falls into the file or just behind it."""
+    return b'x' * (LIMIT - 1 - dice.below(len(file) + 3)) + b'\n' + file
+
+
+# ---------------------------------------------------------------------------
 # Texts
 
 DAYS_OF_YEAR = (0, 1, 31, 32, 59, 60, 61, 181, 182, 183, 364, 365, 366, 367, 400, 999)
@@ -478,6 +722,8 @@ def damaged_once(dice, text):
 
 
 def random_room(dice, needed):
+    if dice.chance(0.02):
+        return dice.pick((MOST_ROOM - 1, MOST_ROOM, MOST_ROOM + 1, dice.below(MOST_ROOM)))
     return dice.pick((needed, needed, needed, needed - 1, needed + 1, 0, 1, 256, dice.below(257)))
 
 
@@ -574,31 +820,40 @@ def random_fraction(dice):
 # ---------------------------------------------------------------------------
 # Lines of the protocol
 
-LONG_LINE_SIZES = (2_047, 2_048, 2_049, 2_050, 4_096, 4_097, 5_000)
+LONG_LINE_SIZES = (2_048, 2_049, 4_096, 4_097)
+LONG_LINES = (  # each of any size: a good call made long by leading zeros, a long file and text, and no calls
+    lambda size: 'tick 1972 1 1 0 0 ' + '7'.rjust(size - 18, '0'),
+    lambda size: 'stamp_of -' + '5'.rjust(size - 12, '0') + ' 1',
+    lambda size: ('read_block ' if size % 2 == 1 else 'read_block -').ljust(size, '0'),
+    lambda size: ('read_kernel ' if size % 2 == 0 else 'read_kernel -').ljust(size, '3'),
+    lambda size: ('read_text 0 ' if size % 2 == 0 else 'read_text 00 ').ljust(size, '3'),
+    lambda size: 'start'.ljust(size),
+    lambda size: 'x' * size,
+)
 
 
 def long_lines():
-    """A good call made long by leading zeros, and a long text; lines of over 2,048 bytes are refused."""
+    """Lines longer than most, and one that is too long."""
     for size in LONG_LINE_SIZES:
-        yield 'start' + ' ' * (size - 5)
-        yield 'tick 1972 1 1 0 0 ' + '7'.rjust(size - 18, '0')
-        yield 'stamp_of -5 ' + '1'.rjust(size - 12, '0')
-        yield 'stamp_of -' + '5'.rjust(size - 12, '0') + ' 1'
-        yield 'read_block ' + '0' * (size - 11)
-        yield 'read_block 01' + '0' * (size - 13)
-        yield ('read_text 0 ' if size % 2 == 0 else 'read_text 00 ').ljust(size, '3')
-        yield 'x' * size
+        for line in LONG_LINES:
+            yield line(size)
+    yield LONG_LINES[0](LONGEST_LINE + 1)
+
+
+def random_long_line(dice):
+    return dice.pick(LONG_LINES)(dice.pick((*LONG_LINE_SIZES, LONGEST_LINE, LONGEST_LINE + 1)))
 
 
 GOOD_LINES = (
-    'table 2 2 0 10 6 11', 'read_block 030C0c', 'read_block -', 'write_block 29', 'instant_of 0 1972 6 30 23 59 60 250000',
+    'table 2 2 0 10 6 11', 'read_block 030C0c', 'read_block -', 'write_block 29', 'read_kernel 5C5c', 'write_kernel 60',
+    'instant_of 0 1972 6 30 23 59 60 250000',
     'stamp_of -867931190000000 0', 'read_text 0 313937322d30372d30315430303a30303a3030', 'read_text 1 -', 'write_text 0 0 1 3 23',
     'write_julian 0 1', 'read_julian 1 4142b42c40000000 3fe0000000000000', 'start', 'tick 1972 6 30 23 59 59',
 )
 
 
 OTHER_WORDS = ('', '-', '--1', '+1', '-1', '-0', '00', '01', '0x1', '1.0', '1e3', 'a', 'A5', 'abc', '1_0', '-00', '-01',
-               '64', '65', '256', '257',
+               '64', '65', str(MOST_ROOM), str(MOST_ROOM + 1),
                str(2**31 - 1), str(2**31), str(-2**31), str(-2**31 - 1), str(2**32 - 1), str(2**32), str(2**63 - 1), str(2**63),
                str(-2**63), str(-2**63 - 1), str(2**64 - 1), str(2**64), '9' * 40, '0' * 40 + '1',
                '3FE0000000000000', '3fe000000000000', '3fe00000000000000', '3fe000000000000g', '-fe0000000000000')
@@ -621,11 +876,12 @@ OTHER_LINES = ('', ' ', '-', '?', '#', 'ok', '\r', 'starts', 'star', 'START', 't
                'table 1 1 0 10', 'table 1 1 0 10 0', 'table 18446744073709551615 0', 'table 18446744073709551616 0', 'table -1 0',
                'table 1 65' + ' 0 0' * 65, 'table 1 64 0 10' + ' 0 0' * 63, 'table 1 -1', 'table 2 2 0 10 4294967295 2147483647',
                'table 2 2 0 10 4294967296 11', 'table 2 2 0 10 6 2147483648', 'table 2 2 0 10 6 -2147483648',
-               'table 2 2 0 10 6 -2147483649',
-               'table 2 2 0 10 -6 11', 'table 02 02 00 010 06 0011', 'table 2 2 -0 10 6 11', 'tick 1972 1 1 0 0 -0',
-               'read_block 0', 'read_block 0g', 'read_block 01 ', 'read_block 0 1', 'read_block --', 'read_block -01', 'write_block 256',
-               'write_block 257', 'write_block -1', 'write_block 18446744073709551616', 'write_text 0 0 0 0 257', 'write_text 0 0 0 0 0',
-               'café', 'read_text 0 é', '\xff\xfe', 'start\x0b', 'start #')
+               'table 2 2 0 10 6 -2147483649', 'table 2 2 0 10 -6 11', 'table 02 02 00 010 06 0011', 'table 2 2 -0 10 6 11',
+               'tick 1972 1 1 0 0 -0', 'read_block 0', 'read_block 0g', 'read_block 01 ', 'read_block 0 1', 'read_block --',
+               'read_block -01', 'write_block 4096', 'write_block 4097', 'write_block -1', 'write_block 18446744073709551616',
+               'write_text 0 0 0 0 4097', 'write_text 0 0 0 0 0', 'write_text 0 0 0 0 4096', 'read_kernel', 'read_kernel -',
+               'read_kernel 5', 'read_kernel 5g', 'read_kernel -5c', 'write_kernel 4096', 'write_kernel 4097', 'write_kernel -1',
+               'write_kernel', 'café', 'read_text 0 é', '\xff\xfe', 'start\x0b', 'start #')
 
 
 # ---------------------------------------------------------------------------
@@ -634,8 +890,9 @@ OTHER_LINES = ('', ' ', '-', '?', '#', 'ok', '\r', 'starts', 'star', 'START', 't
 class Lines:
     """Random lines; it remembers the table that they have set."""
 
-    WEIGHTS = ((4, 'table'), (10, 'read_block'), (3, 'write_block'), (12, 'instant_of'), (14, 'stamp_of'), (18, 'read_text'),
-               (14, 'write_text'), (8, 'write_julian'), (14, 'read_julian'), (1, 'start'), (12, 'tick'), (5, 'damaged'))
+    WEIGHTS = ((4, 'table'), (10, 'read_block'), (3, 'write_block'), (14, 'read_kernel'), (2, 'write_kernel'), (12, 'instant_of'),
+               (14, 'stamp_of'), (18, 'read_text'), (14, 'write_text'), (8, 'write_julian'), (14, 'read_julian'), (1, 'start'),
+               (12, 'tick'), (5, 'damaged'))
 
     def __init__(self, seed):
         self.dice = Dice(seed)
@@ -662,6 +919,12 @@ class Lines:
 
     def line_write_block(self):
         return call('write_block', random_room(self.dice, len(second.block_of_table(edges_of(self.table)))))
+
+    def line_read_kernel(self):
+        return call('read_kernel', hex_word(random_kernel(self.dice, self.table)))
+
+    def line_write_kernel(self):
+        return call('write_kernel', random_room(self.dice, len(second.kernel_of_table(edges_of(self.table)))))
 
     def line_instant_of(self):
         microsecond = self.dice.pick((SECOND, SECOND + 1, 2**32 - 1)) if self.dice.chance(0.04) else random_microsecond(self.dice)
@@ -697,7 +960,7 @@ class Lines:
         if kind == 0:
             return self.dice.pick(OTHER_LINES)
         if kind == 1 and self.dice.chance(0.3):
-            return self.dice.pick(list(long_lines()))
+            return random_long_line(self.dice)
         if kind < 10:
             return self.damaged_at_place(self.dice.pick(GOOD_LINES))
         return self.damaged_word(self.dice.pick(GOOD_LINES))
@@ -864,7 +1127,8 @@ def calendar():
 
 def one_of_each_call(scale):
     """Calls with nothing else wrong, then with all else wrong: the order of 8, 11 and the rest."""
-    yield from ('start', 'tick 1972 6 30 23 59 59', 'tick 0 0 0 99 99 99', 'write_block 256', 'write_block 0')
+    yield from ('start', 'tick 1972 6 30 23 59 59', 'tick 0 0 0 99 99 99', 'write_block 256', 'write_block 0', 'write_kernel 256',
+                'write_kernel 0')
     yield call('instant_of', scale, 1972, 6, 30, 23, 59, 59, 0)
     yield call('instant_of', scale, 0, 0, 0, 99, 99, 99, SECOND)
     yield call('stamp_of', -867_931_190_000_000, scale)
@@ -884,6 +1148,8 @@ def tables():
         yield table_line(table)
         size = len(second.block_of_table(table))
         yield from (call('write_block', size), call('write_block', size - 1), call('read_block', hex_word(second.block_of_table(table))))
+        kernel = second.kernel_of_table(table)
+        yield from (call('write_kernel', len(kernel)), call('write_kernel', len(kernel) - 1), kernel_line(kernel))
         months = list(table.steps)
         for month in sorted(set(months[:2] + months[-1:])):
             for label in labels_of_night(month, table.steps[month]):
@@ -897,7 +1163,7 @@ def tables():
         for heading, malformed in malformed_tables(table):
             yield '# malformed: ' + heading
             yield table_line(malformed)
-            yield from ('start', 'tick 1972 6 30 23 59 59', 'write_block 256', call('stamp_of', 0, TAI))
+            yield from ('start', 'tick 1972 6 30 23 59 59', 'write_block 256', 'write_kernel 0', call('stamp_of', 0, TAI))
     for malformed in (changed(T, count=0), changed(N, offset=(1, 12))):
         for scale in (UTC, GPS, 4):
             yield table_line(malformed)
@@ -916,6 +1182,34 @@ def blocks():
     yield call('read_block', hex_word(b'\x40' + b'\xf4\x17' * 63))
     yield call('read_block', hex_word(b'\x40' + b'\xf5\x17' * 63 + b'\x00'))
     yield call('read_block', hex_word(b'\x40' + b'\xf8\x17' * 63))
+
+
+def kernel_line(file):
+    return call('read_kernel', hex_word(file))
+
+
+def kernels():
+    for file, place in BAD_KERNELS:
+        yield f'# 14 at {place}: {file!r}'
+        yield kernel_line(file)
+    yield '# good'
+    yield from map(kernel_line, GOOD_KERNELS)
+    yield '# as it is published, and as another system might write it'
+    for file in (published_kernel(), foreign_kernel()):
+        yield kernel_line(file)
+        yield kernel_line(file + OURS)
+    yield '# each part of the grammar'
+    yield from map(kernel_line, kernels_of_grammar())
+    yield '# pairs that are no table, and many'
+    yield from map(kernel_line, kernels_of_tables())
+    yield '# a small kernel damaged at each place'
+    yield from map(kernel_line, damaged_kernels(SMALL_KERNEL))
+    yield '# at the limit and past it'
+    yield from map(kernel_line, kernels_of_limit())
+    yield '# written'
+    yield table_line(BULLETIN)
+    for room in (0, 1_031, 1_032, 1_033, MOST_ROOM, MOST_ROOM + 1):
+        yield call('write_kernel', room)
 
 
 def texts():
@@ -943,8 +1237,10 @@ def buffers():
     for picture, scale, digits in ((3, 0, 0), (0, 4, 0), (0, 0, 7), (3, 4, 7), (2**32 - 1, 0, 0), (0, 0, 2**32 - 1)):
         for room in (0, 26):
             yield call('write_text', instant, picture, scale, digits, room)
-    for room in (0, 1, 28, 29, 30, 256):
+    for room in (0, 1, 28, 29, 30, 256, 257, MOST_ROOM, MOST_ROOM + 1):
         yield call('write_block', room)
+    for room in (256, 257, MOST_ROOM, MOST_ROOM + 1):
+        yield call('write_text', instant, 0, UTC, 6, room)
     for near in range(-3, 3):
         yield call('write_text', near, 0, TAI, 6, 26)
         yield call('write_text', near, 0, TAI, 3, 23)
@@ -990,6 +1286,7 @@ SECTIONS = (
     ('The calendar and the order of the refusals', calendar),
     ('Tables', tables),
     ('Blocks', blocks),
+    ('Kernels', kernels),
     ('Texts wrong at each position', texts),
     ('Buffers', buffers),
     ('Doubles', doubles),
@@ -998,12 +1295,15 @@ SECTIONS = (
 
 
 def stored_lines():
-    """All ASCII and no NUL, so that tools for text take the file for one; random lines have the other bytes too."""
+    """All ASCII and no NUL, so that tools for text take the file for one; random lines have the other bytes too.
+
+    Long lines make it large: it has those of its sections and no random ones.
+    """
     for heading, section in SECTIONS:
         yield '# ' + heading
         yield from filter(is_plain, section())
     yield f'# Random lines, seed {STORED_SEED}'
-    yield from filter(is_plain, random_lines(STORED_SEED, STORED_RANDOM_LINES))
+    yield from (line for line in random_lines(STORED_SEED, STORED_RANDOM_LINES) if is_plain(line) and len(line) < 10_000)
 
 
 def is_plain(line):

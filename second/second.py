@@ -1,11 +1,11 @@
 #!/usr/bin/env python3
 """The second program of Mundreff: the same answers, found another way.
 
-It is written from the text of the scope ("What to build and its rules") and
-not from the Rattle code or its proofs, so that an error has to be made twice
-to pass unseen.  Python 3, standard library only.  Each section below is a
-section of the scope; after them come the programs, and the comparison of
-Bulletin C with the machine's own lists.
+It is written from the text of the scope ("What to build and its rules") and of
+the requests after it, and not from the Rattle code or its proofs, so that an
+error has to be made twice to pass unseen.  Python 3, standard library only.
+Each section below is a section of the scope or a request; after them come the
+programs, and the comparison of Bulletin C with the machine's own lists.
 
     second.py              answers the lines of the program `calls` (stdin to stdout)
     second.py ticks        prints the listing of the program `ticks`
@@ -31,11 +31,11 @@ from typing import NamedTuple
 # Numbers of the refusals
 
 (ROOM, SHAPE, YEAR, DATE, CLOCK, NOSECOND, RANGE,
- ASK, CUT, GROUPS, TABLE, TAIL, NUMBER) = range(1, 14)
+ ASK, CUT, GROUPS, TABLE, TAIL, NUMBER, KERNEL) = range(1, 15)
 
 
 class Refused(Exception):
-    """A call's refusal: its number, and the place while reading a block."""
+    """A call's refusal: its number, and the place while reading a block or a kernel."""
 
     def __init__(self, number, place=0):
         super().__init__(number, place)
@@ -452,6 +452,194 @@ def write_text(table, instant, picture, scale, digits, room):
 
 
 # ---------------------------------------------------------------------------
+# The text kernel
+
+MOST_KERNEL_BYTES = 65_536
+OUR_NAME = b'DELTET/DELTA_AT'
+BEGIN_TEXT = b'\\begintext'
+WHITE = b' \t\r'
+NAME_BYTES = bytes(byte for byte in range(33, 127) if byte not in b"(),=+'@\\")
+
+
+def run_of(these_bytes):
+    return re.compile(b'[' + re.escape(these_bytes) + b']*')
+
+
+DATA_LINE = re.compile(rb'^[ \t\r]*\\begindata[ \t\r]*(?:\n|\Z)', re.MULTILINE)
+WHITES = run_of(WHITE)
+BETWEEN_TOKENS = run_of(WHITE + b'\n')
+BETWEEN_ITEMS = run_of(WHITE + b'\n,')
+NAME = run_of(NAME_BYTES)
+RUN = run_of(NAME_BYTES + b'+@')
+QUOTED_TO_ITS_END = re.compile(rb"'[^\n\\']*(?:''[^\n\\']*)*")  # not with the quote that ends it
+SIGN = re.compile(rb'[+-]?')
+DIGITS = re.compile(rb'[0-9]*')
+DATE_OF_KERNEL = re.compile(rb'@([0-9]{4})-(' + b'|'.join(MONTH_NAMES) + rb')-0?1', re.IGNORECASE)
+LATEST_DATES = [b'@9999-%s-%s' % (name, day) for name in MONTH_NAMES for day in (b'1', b'01')]
+
+
+def month_of_kernel_date(run):
+    """The month that a run names, or None where it is no date."""
+    found = DATE_OF_KERNEL.fullmatch(run)
+    if not found or int(found[1]) < FIRST_YEAR:
+        return None
+    return month_number(int(found[1]), MONTH_NAMES.index(found[2].upper()) + 1)
+
+
+def may_become_date(run):
+    """Some date begins so: if any does, then one that goes on like a late date."""
+    return any(month_of_kernel_date(run + date[len(run):]) is not None for date in LATEST_DATES)
+
+
+class Kernel:
+    """A kernel's bytes and the place up to which they are read.
+
+    Each method reads its part of the grammar from that place on, or refuses the
+    file.  The file's end is a fault like any byte that may not stand there.
+    """
+
+    def __init__(self, file):
+        self.file = file
+        self.place = 0
+        self.pairs = None  # (month, offset) of each pair, once our assignment is read
+
+    def fault(self):
+        return Refused(KERNEL, self.place)
+
+    def at_end(self):
+        return self.place == len(self.file)
+
+    def next_is(self, byte):
+        return self.file.startswith(byte, self.place)
+
+    def take(self, pattern):
+        found = pattern.match(self.file, self.place)
+        self.place = found.end()
+        return found[0]
+
+    def need(self, pattern):
+        """What is taken may not be empty."""
+        if not (taken := self.take(pattern)):
+            raise self.fault()
+        return taken
+
+    def need_byte(self, byte):
+        if not self.next_is(byte):
+            raise self.fault()
+        self.place += 1
+
+    def whole_file(self):
+        while found := DATA_LINE.search(self.file, self.place):
+            self.place = found.end()
+            self.data()
+        self.place = len(self.file)
+        if self.pairs is None:
+            raise self.fault()
+
+    def data(self):
+        """Assignments up to a `\\begintext` line, or to the file's end."""
+        self.take(BETWEEN_TOKENS)
+        while not self.at_end():
+            if self.next_is(b'\\'):
+                return self.text_line()
+            self.assignment()
+            self.take(BETWEEN_TOKENS)
+
+    def text_line(self):
+        """Nothing but white may stand before the backslash on its line."""
+        line = self.file.rfind(b'\n', 0, self.place) + 1
+        if self.file[line:self.place].strip(WHITE):
+            raise self.fault()
+        for byte in BEGIN_TEXT:
+            self.need_byte(bytes([byte]))
+        self.take(WHITES)
+        if not self.at_end():
+            self.need_byte(b'\n')
+
+    def assignment(self):
+        first = self.place
+        is_ours = self.need(NAME) == OUR_NAME
+        if is_ours and self.pairs is not None and not self.at_end():
+            raise Refused(KERNEL, first)  # at the file's end it may yet become a longer name
+        self.take(BETWEEN_TOKENS)
+        if self.next_is(b'+') and not is_ours:
+            self.place += 1
+        self.need_byte(b'=')
+        self.take(BETWEEN_TOKENS)
+        if is_ours:
+            self.pairs = self.in_parentheses(self.pair)
+        elif self.next_is(b'('):
+            self.in_parentheses(self.item)
+        else:
+            self.item()
+
+    def in_parentheses(self, part):
+        """What each part gives: one or more, apart from one another."""
+        self.need_byte(b'(')
+        self.take(BETWEEN_ITEMS)
+        parts = [part()]
+        apart = self.take(BETWEEN_ITEMS)
+        while not self.next_is(b')'):
+            if not apart:
+                raise self.fault()
+            parts.append(part())
+            apart = self.take(BETWEEN_ITEMS)
+        self.place += 1
+        return parts
+
+    def item(self):
+        if self.next_is(b"'"):
+            self.take(QUOTED_TO_ITS_END)
+            self.need_byte(b"'")
+        else:
+            self.need(RUN)
+
+    def pair(self):
+        offset = self.whole_number()
+        self.need(BETWEEN_ITEMS)
+        return self.date(), offset
+
+    def whole_number(self):
+        sign = self.take(SIGN)
+        digits = self.need(DIGITS).lstrip(b'0')
+        return int(sign + (digits[:9] or b'0'))  # an offset of three digits or more is in no good table, whatever it is
+
+    def date(self):
+        first = self.place
+        if not self.next_is(b'@'):
+            raise self.fault()
+        run = self.take(RUN)
+        month = month_of_kernel_date(run)
+        if month is None:
+            raise self.fault() if self.at_end() and may_become_date(run) else Refused(KERNEL, first)
+        return month
+
+
+def read_kernel(file):
+    kernel = Kernel(file[:MOST_KERNEL_BYTES])
+    kernel.whole_file()
+    if len(file) > MOST_KERNEL_BYTES:
+        raise Refused(KERNEL, MOST_KERNEL_BYTES)
+    table = Table(len(kernel.pairs), [month for month, _ in kernel.pairs], [offset for _, offset in kernel.pairs])
+    check_table(table)
+    return table
+
+
+def kernel_of_table(table):
+    pairs = []
+    for month, offset in zip(table.used_months, table.offsets):
+        year, month_of_year = FIRST_YEAR + month // 12, month % 12
+        pairs.append(b'%d, @%04d-%s-1' % (offset, year, MONTH_NAMES[month_of_year]))
+    opening = OUR_NAME + b' = ( '
+    return b'\\begindata\n' + opening + (b'\n' + b' ' * len(opening)).join(pairs) + b' )\n' + BEGIN_TEXT + b'\n'
+
+
+def write_kernel(table, room):
+    check_table(table)
+    return fit(kernel_of_table(table), room)
+
+
+# ---------------------------------------------------------------------------
 # Two-part Julian dates
 
 MIDNIGHT_OF_DAY_0 = 2441317.5  # 1972-01-01
@@ -590,8 +778,8 @@ def program_ticks(descriptor, output):
 # ---------------------------------------------------------------------------
 # The program `calls`: every public call, one to a line
 
-LONGEST_LINE = 2_048
-MOST_ROOM = 256
+LONGEST_LINE = 140_000
+MOST_ROOM = 4_096
 BEFORE_THE_CALL = b'\xa5'  # each byte of a lent buffer
 
 
@@ -601,12 +789,20 @@ class NoCall(Exception):
 
 # Words of a line
 
+DIGITS_THAT_TELL = 21  # a number of as many is too large for every type; Python makes none of thousands of digits
+
+
 def number_in(low, high):
     """A reader of whole numbers of a type with these ends."""
     def read(word):
-        if not word.removeprefix(b'-').isdigit() or not low <= int(word) <= high:
+        digits = word.removeprefix(b'-')
+        if not digits.isdigit():
             raise NoCall
-        return int(word)
+        size = int(digits.lstrip(b'0')[:DIGITS_THAT_TELL] or b'0')
+        number = -size if word.startswith(b'-') else size
+        if not low <= number <= high:
+            raise NoCall
+        return number
     return read
 
 
@@ -655,11 +851,19 @@ def words_of_table(table):
                                           for number in (table.months[i], table.offsets[i])))
 
 
-def answer_read_block(_, block):
+def answer_of_reader(read, file):
     try:
-        return f'0 0 {words_of_table(read_block(block))}'
+        return f'0 0 {words_of_table(read(file))}'
     except Refused as refused:
         return words_of(refused.number, refused.place, 0, 0)
+
+
+def answer_read_block(_, block):
+    return answer_of_reader(read_block, block)
+
+
+def answer_read_kernel(_, file):
+    return answer_of_reader(read_kernel, file)
 
 
 def answer_of_writer(room, write):
@@ -673,6 +877,10 @@ def answer_of_writer(room, write):
 
 def answer_write_block(table, room):
     return answer_of_writer(room, lambda room: write_block(table, room))
+
+
+def answer_write_kernel(table, room):
+    return answer_of_writer(room, lambda room: write_kernel(table, room))
 
 
 def answer_write_text(table, instant, picture, scale, digits, room):
@@ -722,6 +930,8 @@ def answer_tick(table, *fields):
 CALLS = {  # each with the types of its words
     b'read_block': (answer_read_block, (HEX_BYTES,)),
     b'write_block': (answer_write_block, (ROOM_OF_BUFFER,)),
+    b'read_kernel': (answer_read_kernel, (HEX_BYTES,)),
+    b'write_kernel': (answer_write_kernel, (ROOM_OF_BUFFER,)),
     b'instant_of': (answer_instant_of, (U32,) * 8),
     b'stamp_of': (answer_stamp_of, (I64, U32)),
     b'read_text': (answer_read_text, (U32, HEX_BYTES)),

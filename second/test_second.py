@@ -48,6 +48,18 @@ def expect_refusal(scale, text, number, table=B_LINE):
     expect(text_call(scale, text), f'{number} 0 0 0 0 0 0 0 0 0', table)
 
 
+def kernel_call(file):
+    return 'read_kernel ' + (file.hex() or '-')
+
+
+def expect_kernel(file, answer):
+    expect(kernel_call(file), answer)
+
+
+def expect_kernel_fault(file, place):
+    expect_kernel(file, f'14 {place} 0 0')
+
+
 def expect_written(instant, picture, scale, digits, text):
     expect(f'write_text {instant} {picture} {scale} {digits} {len(text)}', f'0 {len(text)} {text.encode().hex()}')
 
@@ -140,6 +152,118 @@ def test_ticks_reads_three_lines_only():
 
 
 # ---------------------------------------------------------------------------
+# The kernel
+
+H = b'\\begindata\n'
+NAME = b'DELTET/DELTA_AT'
+G = b'DELTET/DELTA_AT=(10,@1972-JAN-1)'
+ONE_ENTRY = '0 0 1 1 0 10'
+B_WORDS = '0 0 ' + B_LINE.removeprefix('table ')
+
+
+def test_rows_of_the_kernel():
+    assert len(generate.BAD_KERNELS) == 17 and len(generate.GOOD_KERNELS) == 2
+    for file, place in generate.BAD_KERNELS:
+        expect_kernel_fault(file, place)
+    for file in generate.GOOD_KERNELS:
+        expect_kernel(file, ONE_ENTRY)
+    expect_kernel(generate.published_kernel(), B_WORDS)
+    expect_kernel(generate.foreign_kernel(), B_WORDS)
+    expect_kernel_fault(generate.published_kernel().replace(b'JUL-1', b'JUL-2', 1), generate.published_kernel().index(b'@1972-JUL'))
+
+
+def test_places_in_dates():
+    for date in (b'@1972-JAN-1', b'@1972-jan-01', b'@1972-jAN-1'):
+        expect_kernel(H + NAME + b'=(10 ' + date + b')', ONE_ENTRY)
+    for date in (b'@1972-JAN-12', b'@1972-JAN-1x', b'@1972-JAN', b'@1972-JAN-', b'@1972-JAN-0', b'@1972-JAN-2', b'@1972-JAN-011', b'@',
+                 b'@1971-DEC-1', b'@1972-JAN-1@', b'@1972-JAN-1+', b'@972-JAN-1', b'@10000-JAN-1', b'@1972-01-1', b'@1972-MAI-1',
+                 b'@+1972-JAN-1'):
+        for after in b'), \t\r\n(=\'\\\x00\x80':
+            expect_kernel_fault(H + NAME + b'=(10 ' + date + bytes([after]), 31)
+    for date in (b'@1971', b'@196', b'@18', b'@0', b'@1972-O1', b'@1972-JU-', b'@1972-JAN-3', b'@1972-JAN-00', b'@1972-JAN-1a', b'@x'):
+        expect_kernel_fault(H + NAME + b'=(10 ' + date, 31)
+    for date in (b'@', b'@1', b'@19', b'@2', b'@9', b'@1999', b'@1972-', b'@1972-d', b'@1972-jU', b'@1972-DEC-', b'@1972-DEC-0',
+                 b'@1972-DEC-01'):
+        expect_kernel_fault(H + NAME + b'=(10 ' + date, 31 + len(date))
+    for after in b"(='\\\x00\x80":
+        expect_kernel_fault(H + NAME + b'=(10 @1972-JAN-1' + bytes([after]), 42)
+
+
+def test_places_in_our_assignment():
+    for wrong, place in ((b'=1', 27), (b"='x'", 27), (b'==', 27), (b' +=(', 27), (b'+', 26), (b'(', 26), (b'\\', 26), (b'=()', 28),
+                         (b'=(,)', 29), (b'=(@1972-JAN-1)', 28), (b'=(+)', 29), (b'=(--1', 29), (b"=('10'", 28), (b'=(1e1', 29),
+                         (b'=(10 11 @', 31), (b'=(10,)', 31), (b'=(10\n\\begintext', 31), (b'=(10 @1972-JAN-1,@1972-FEB-1)', 43),
+                         (b'=(10 @1972-JAN-1 11)', 45), (b'=(\x80', 28), (b'=', 27), (b'=(', 28), (b'=(+', 29), (b'=(10', 30),
+                         (b'=(10 ', 31), (b'=(10 @1972-JAN-1', 42), (b'=(10 @1972-JAN-1, ', 44)):
+        expect_kernel_fault(H + NAME + wrong, place)
+    for number in (b'+10', b'0010', b'+' + b'0' * 5_000 + b'10'):
+        expect_kernel(H + NAME + b' = (' + number + b',@1972-JAN-1)', ONE_ENTRY)
+    for number in (b'-10', b'9', b'4294967306', b'18446744073709551626', b'1' + b'0' * 5_000 + b'10', b'-0'):
+        expect_kernel(H + NAME + b'=(' + number + b',@1972-JAN-1)', '11 0 0 0')
+    expect_kernel(H + NAME + b'=(10,@1972-JAN-1,9,@9999-DEC-1)', '0 0 2 2 0 10 96335 9')
+    expect_kernel(H + NAME + b'=(10,@1972-FEB-1)', '11 0 0 0')
+    for count, number in ((64, 0), (65, 11), (200, 11)):
+        pairs = b' '.join(b'%d @%d-JAN-1' % (10 + i, 1972 + i) for i in range(count))
+        assert answers(kernel_call(H + NAME + b'=(' + pairs + b')'))[0].startswith(f'{number} 0 ')
+        expect_kernel_fault(H + NAME + b'=(' + pairs, 28 + len(pairs))
+
+
+def test_places_between_assignments():
+    for after, place in ((b'A', 44), (b'A ', 45), (b'A B', 45), (b'A+ =', 45), (b'A+', 45), (b'A=', 45), (b'A=(', 46), (b'A=()', 46),
+                         (b'A=(1', 47), (b"A=(1'x')", 47), (b"A=('x'1)", 49), (b'A=((', 46), (b'A=(=', 46), (b'A=1=', 46), (b'A=1(', 46),
+                         (b"A=1'", 46), (b'A=1\\', 46), (b"A='", 46), (b"A='x\n'", 47), (b"A='\\", 46), (b"A='''", 48),
+                         (b"A='x'\\begintext", 48), (b"A='x' 'y'", 49), (b'A=\x7f', 45), (b'A=\n\\begintext', 46), (b'(', 43), (b')', 43),
+                         (b'@', 43), (b'+', 43), (b'=', 43), (b"'", 43), (b'\x80', 43), (b'\x00', 43), (NAME + b' ', 43),
+                         (NAME + b'+=(', 43), (NAME + b'\\', 43), (NAME + b'\x80', 43), (NAME + b'X', 59), (NAME, 58), (b'\n\\', 45),
+                         (b'\n\\begintex', 53), (b'\n\\begintextt', 54), (b'\n\\begintext x', 55), (b'\n\\begintext\\', 54),
+                         (b'\n\\Begintext', 45)):
+        expect_kernel_fault(H + G + after, place)
+    for after in (b'', b'A=1', b'A+=+', b"A=''''", b"A=('x''y')", b"A='x'B='\x00\xff\r'", b'A=(,1,,2\n,)', b'A\n=\n1', NAME + b'X=1',
+                  b'A=' + NAME, b'deltet/delta_at=1', b'\n\\begintext', b'\r\n\t\\begintext \r', b'\n\\begintext\n' + G,
+                  b'\n\\begintext\n\\begindata', b'\n\\begintext\n\\begindata\nA=1'):
+        expect_kernel(H + G + after, ONE_ENTRY)
+    for before in (b'text\n', b'\xff\x00\n', b'\\begindata x\n', b'x \\begindata\n', b'\\begindataa\n', b'\\begintext\n',
+                   b'\\begindata\n\n\\begintext\n', b' \t\r'):
+        expect_kernel(before + H + G, ONE_ENTRY)
+    for text in (b'\\begindata x\n' + G, b'x\\begindata\n' + G, b'\\BEGINDATA\n' + G, H + b'A=1\n\\begintext\n' + G):
+        expect_kernel_fault(text, len(text))
+    expect_kernel_fault(H + G + b'\n\\begintext\n' + H + G, 66)
+
+
+def test_limit_of_kernels():
+    def padded(size, end):
+        return b'x' * (size - 1 - len(end)) + b'\n' + end
+    for size in (65_535, 65_536):
+        expect_kernel(padded(size, H + G), ONE_ENTRY)
+        expect_kernel_fault(padded(size, H), size)
+    for size in (65_537, 65_538, 69_994):
+        expect_kernel_fault(padded(size, H + G), 65_536)
+        expect_kernel_fault((H + G + b'(').ljust(size), 43)
+    expect_kernel_fault(padded(65_536, H + G + NAME) + b'=', 65_536)
+    expect_kernel_fault(padded(65_536, H + G + NAME + b'=') + b'=', 65_520)
+    expect_kernel_fault(padded(65_536, H + NAME + b'=(10 @1972-JA') + b'X', 65_536)
+    expect_kernel_fault(padded(65_536, H + NAME + b'=(10 @1972-JX') + b'X', 65_528)
+    expect_kernel_fault(padded(65_536, H + G) + b'(', 65_536)
+    expect_kernel_fault(padded(65_536, G), 65_536)
+    for worst in (b'A=1 ', b'A=(1,,1)', b"A=''", b'\n\\begintext\n\\begindata\n', b' ', b"A='''" + b"''" * 40 + b"'"):
+        expect_kernel(H + G + worst * ((65_536 - 43) // len(worst)), ONE_ENTRY)
+
+
+def test_written_kernels():
+    one = b'\\begindata\nDELTET/DELTA_AT = ( 10, @1972-JAN-1 )\n\\begintext\n'
+    expect('write_kernel 60', f'0 60 {one.hex()}', 'table 1 1 0 10')
+    expect('write_kernel 61', f'0 60 {one.hex()}a5', 'table 1 1 0 10')
+    expect('write_kernel 59', '1 0 ' + 'a5' * 59, 'table 1 1 0 10')
+    two = b'\\begindata\nDELTET/DELTA_AT = ( 10, @1972-JAN-1\n                    9, @9999-DEC-1 )\n\\begintext\n'
+    expect('write_kernel 95', f'0 95 {two.hex()}', 'table 2 2 0 10 96335 9')
+    expect('write_kernel 2', '11 0 a5a5', 'table 2 2 0 10 96335 8')
+    expect('write_kernel 0', '11 0 -', 'table 0 0')
+    assert len(second.write_kernel(second.table_of_bulletin_c(), 1_032)) == 1_032
+    sizes = [len(second.write_kernel(table, 4_096)) for _, table in generate.good_tables()]
+    assert (min(sizes), max(sizes)) == (60, 2_362)
+
+
+# ---------------------------------------------------------------------------
 # What the scope leaves open, as docs/DECISIONS.md settles it
 
 def test_readings_of_instants():
@@ -159,11 +283,11 @@ def test_readings_of_instants():
 
 
 def test_readings_of_tables():
-    for table in ('table 0 0', 'table 1 0', 'table 2 1 0 10', 'table 1 2 0 10 6 11', 'table 65 1 0 10', 'table 18446744073709551615 1 0 10',
-                  'table 1 1 1 10', 'table 1 1 0 9', 'table 2 2 0 10 0 11', 'table 3 3 0 10 6 11 6 12', 'table 3 3 0 10 6 11 5 12',
-                  'table 2 2 0 10 6 10', 'table 2 2 0 10 6 12', 'table 2 2 0 10 6 8', 'table 2 2 0 10 96336 11', 'table 1 2 0 10 0 1',
-                  'table 1 2 0 10 1 0', 'table 1 64 0 10' + ' 0 0' * 62 + ' 0 1', 'table 2 2 0 10 4294967295 11',
-                  'table 3 3 0 10 1 2147483647 2 -2147483648'):
+    for table in ('table 0 0', 'table 1 0', 'table 2 1 0 10', 'table 1 2 0 10 6 11', 'table 65 1 0 10',
+                  'table 18446744073709551615 1 0 10', 'table 1 1 1 10', 'table 1 1 0 9', 'table 2 2 0 10 0 11',
+                  'table 3 3 0 10 6 11 6 12', 'table 3 3 0 10 6 11 5 12', 'table 2 2 0 10 6 10', 'table 2 2 0 10 6 12',
+                  'table 2 2 0 10 6 8', 'table 2 2 0 10 96336 11', 'table 1 2 0 10 0 1', 'table 1 2 0 10 1 0',
+                  'table 1 64 0 10' + ' 0 0' * 62 + ' 0 1', 'table 2 2 0 10 4294967295 11', 'table 3 3 0 10 1 2147483647 2 -2147483648'):
         expect('start', '11 0 0 0 0 0 0', table)
         expect('tick 0 0 0 0 0 0', '11 0 0 0 0 0 0', table)
         expect('write_block 2', '11 0 a5a5', table)
@@ -282,19 +406,22 @@ def test_lines():
     start = '0 1972 1 1 0 0 0'
     assert answers('start', end='') == [start] and answers(end='') == []
     assert answers('', 'start', '') == ['?', start, '?']
-    for line in ('start ', ' start', 'start\r', 'START', 'start 0', 'stamp_of 0', 'stamp_of  0 1', 'stamp_of 0 1 1',
-                 'stamp_of 0\t1', '# start',
-                 'stamp_of +0 1', 'stamp_of 0x0 1', 'stamp_of - 1', 'stamp_of --1 1', 'stamp_of 1_0 1', 'stamp_of 9223372036854775808 1',
-                 'stamp_of -9223372036854775809 1', 'stamp_of 0 4294967296', 'stamp_of 0 -1', 'read_block 0', 'read_block 0g', 'read_block',
-                 'read_block 01 02', 'read_block --', 'write_block 257', 'write_block -1', 'write_text 0 0 0 0 257', 'read_julian 1 - -',
-                 'read_julian 1 3fe000000000000 3fe0000000000000', 'read_julian 1 03fe0000000000000 3fe0000000000000', 'table', 'table 1',
-                 'table 1 1 0', 'table 1 1 0 10 6', 'table 1 65' + ' 0 0' * 65, 'table 18446744073709551616 0', 'table 1 1 4294967296 10',
-                 'table 1 1 0 2147483648', 'table 1 1 0 -2147483649', 'table -1 0', 'stamp_of 1\u00b2 1'):
+    for line in ('start ', ' start', 'start\r', 'START', 'start 0', 'stamp_of 0', 'stamp_of  0 1', 'stamp_of 0 1 1', 'stamp_of 0\t1',
+                 '# start', 'stamp_of +0 1', 'stamp_of 0x0 1', 'stamp_of - 1', 'stamp_of --1 1', 'stamp_of 1_0 1',
+                 'stamp_of 9223372036854775808 1', 'stamp_of -9223372036854775809 1', 'stamp_of 0 4294967296', 'stamp_of 0 -1',
+                 'read_block 0', 'read_block 0g', 'read_block', 'read_block 01 02', 'read_block --', 'write_block 4097', 'write_block -1',
+                 'write_text 0 0 0 0 4097', 'read_julian 1 - -', 'read_kernel', 'read_kernel 5', 'read_kernel 5g', 'read_kernel 5c 5c',
+                 'write_kernel', 'write_kernel 4097', 'write_kernel -1', 'read_julian 1 3fe000000000000 3fe0000000000000',
+                 'read_julian 1 03fe0000000000000 3fe0000000000000', 'table', 'table 1', 'table 1 1 0', 'table 1 1 0 10 6',
+                 'table 1 65' + ' 0 0' * 65, 'table 18446744073709551616 0', 'table 1 1 4294967296 10', 'table 1 1 0 2147483648',
+                 'table 1 1 0 -2147483649', 'table -1 0', 'stamp_of 1\u00b2 1'):
         assert answers(line, 'start') == ['?', start], line
     expect('stamp_of -0 0001', '0 1 2000 1 1 12 0 0 0')
     expect('tick 1972 1 1 0 0 -0', '0 1972 1 1 0 0 1')
     expect('read_julian 1 4142B42C40000000 3fE0000000000000', '0 0')
     expect('write_block 0', '1 0 -')
+    expect('write_block 4096', '0 1 01' + 'a5' * 4_095, 'table 1 1 0 10')
+    expect('write_text 0 1 1 0 4096', '0 17 ' + b'2000-001T12:00:00'.hex() + 'a5' * 4_079)
     for table in ('table 1 1 0 -2147483648', 'table 1 1 4294967295 2147483647', 'table 18446744073709551615 0'):
         expect('start', '11 0 0 0 0 0 0', table)
 
@@ -303,12 +430,15 @@ def test_long_lines():
     def tick(size):
         return 'tick 1972 1 1 0 0 ' + '7'.rjust(size - 18, '0')
     next_label, next_start = '0 1972 1 1 0 0 8', '0 1972 1 1 0 0 0'
-    assert answers(tick(2048), 'start') == [next_label, next_start]
-    assert answers(tick(2048), end='') == [next_label]
-    for size in (2049, 2050, 4096, 4097, 4098, 100_000):
+    for size in (2048, 2049, 139_999, 140_000):
+        assert answers(tick(size), 'start') == [next_label, next_start]
+        assert answers(tick(size), end='') == [next_label]
+    for size in (140_001, 140_002, 280_000, 280_001, 280_002, 1_000_000):
         assert answers(tick(size), 'start') == ['?', next_start]
         assert answers(tick(size), end='') == ['?']
-    assert answers('read_text 0 ' + '3' * 2036)[0].startswith('2 ')
+    assert answers('stamp_of ' + '9' * 139_989 + ' 1') == ['?'] and answers('stamp_of -' + '0' * 139_988 + ' 1')[0].startswith('0 1 2000 ')
+    assert answers('read_text 0 ' + '3' * 139_988)[0].startswith('2 ')
+    assert answers('read_kernel ' + '33' * 69_994) == ['14 65536 0 0']
 
 
 # ---------------------------------------------------------------------------
@@ -337,11 +467,12 @@ def test_clock_against_instants():
 
 
 def test_round_trips():
-    """Over random good tables and instants: text and Julian date read back, and blocks too."""
+    """Over random good tables and instants: text and Julian date read back, and blocks and kernels too."""
     dice = generate.Dice(1)
     for _ in range(3_000):
         table, scale, picture = generate.random_table(dice), dice.pick(generate.SCALES), dice.pick(generate.PICTURES)
         assert second.read_block(second.write_block(table, 256)).__dict__ == table.__dict__
+        assert second.read_kernel(second.write_kernel(table, 4_096)).__dict__ == table.__dict__
         instant = generate.random_instant(dice, table)
         try:
             stamp = second.stamp_of(table, instant, scale)
@@ -363,15 +494,16 @@ def test_bulletin_can_disagree():
             file.write(good)
         assert not second.program_bulletin(io.StringIO(), folder)
     assert second.entries_of_leapseconds(good) == [(1972, 1, 1, 10), (1972, 7, 1, 11)]
-    assert second.entries_of_leap_seconds_list('#x\n2272060800\t10\t# 1 Jan 1972\n2287785600 11\n') == [(1972, 1, 1, 10), (1972, 7, 1, 11)]
+    assert second.entries_of_leap_seconds_list('#x\n2272060800\t10\t# 1 Jan 1972\n2287785600 11\n') == [(1972, 1, 1,
+                                                                                                         10), (1972, 7, 1, 11)]
 
 
 def test_stored_input():
     lines = list(generate.stored_lines())
-    assert 9_000 < len(lines) < 16_000 and all('\n' not in line for line in lines)
+    assert 15_000 < len(lines) < 20_000 and all('\n' not in line for line in lines)
     assert lines == list(generate.stored_lines())
     found = {answer.split()[0] for answer in answers(*lines)}
-    assert found == {'ok', '?', *map(str, range(14))}, found
+    assert found == {'ok', '?', *map(str, range(15))}, found
 
 
 def main():

@@ -4,7 +4,7 @@ use mathlib.Core.Bool.{Bool, true, cond, _&&_}
 use mathlib.Core.List.{List, [], _∷_}
 use Prim.Native.Nat.{ℕ}
 use Rattle.answer.specs.declared.Refusal.{Refusal}
-use Rattle.answer.specs.declared.Refusal.the-variants.{Room, Shape, Year, Date, Clock, NoSecond, Range, Ask, Cut, Groups, Table, Tail, Number}
+use Rattle.answer.specs.declared.Refusal.the-variants.{Room, Shape, Year, Date, Clock, NoSecond, Range, Ask, Cut, Groups, Table, Tail, Number, Kernel}
 
 -- Each number, and what it is given exactly for.
 abbrev pub number : Refusal → ℕ
@@ -34,6 +34,8 @@ number Table = 11
 number Tail = 12
 -- the midnight is not a whole number and a half, or the fraction is not at least 0 and below 1; infinities and NaN
 number Number = 13
+-- a file is no kernel, or is longer than is read; its place is said in specs/Promise.antt of `kernel`
+number Kernel = 14
 
 -- A call's order: tests, each with the refusal for its failing. The first that fails decides; `refuse` makes its answer.
 abbrev pub refusing : {A : Type 0} → (Refusal → A) → List (Bool × Refusal) → A → A

@@ -1,11 +1,11 @@
 // Why a call is refused, and the one function that meets a lent buffer.
-// Every public call answers a value or one of the thirteen refusals, in an order that `refusing` of specs/ says.
+// Every public call answers a value or one of the refusals, in an order that `refusing` of specs/ says.
 ghost use mathlib.Core.Path.{_≡_};
 ghost use mathlib.Core.List.{[]};
 ghost use Rattle.answer.specs.Refusals.{number};
 ghost use Rattle.answer.specs.Buffers.{written, bufferAfter};
 
-// The scope's thirteen, in its order.
+// The scope's thirteen in its order, and those that requests added.
 pub enum Refusal {
     Room,
     Shape,
@@ -20,6 +20,7 @@ pub enum Refusal {
     Table,
     Tail,
     Number,
+    Kernel,
 }
 
 // How many bytes were written, or why none.
@@ -46,6 +47,7 @@ pub fn number_of(why: Refusal) -> u32
         Refusal::Table => 11,
         Refusal::Tail => 12,
         Refusal::Number => 13,
+        Refusal::Kernel => 14,
     }
 }
 

@@ -1,82 +1,87 @@
-// A line to its answer.
+// A line to its answer. A further call is a name and a number in `calls`, and a line here.
+use crate::calls::INSTANT_OF;
+use crate::calls::READ_JULIAN;
+use crate::calls::READ_KERNEL;
+use crate::calls::READ_TEXT;
+use crate::calls::STAMP_OF;
+use crate::calls::START;
+use crate::calls::TABLE;
+use crate::calls::TICK;
+use crate::calls::WRITE_JULIAN;
+use crate::calls::WRITE_KERNEL;
+use crate::calls::call_of;
 use crate::dates::read_julian;
 use crate::dates::write_julian;
 use crate::said::Said;
-use crate::said::Tail;
-use crate::said::said_tail;
+use crate::said::kept;
+use crate::said::said_bad;
 use crate::stamps::instant_of;
 use crate::stamps::stamp_of;
 use crate::stamps::start;
 use crate::stamps::tick;
-use crate::tables::Answered;
-use crate::tables::read_block;
-use crate::tables::set_table;
+use crate::tables::said_taken;
+use crate::tables::table_after;
+use crate::tables::tell_reading;
+use crate::tell::tell;
 use crate::texts::read_text;
-use crate::texts::write_block;
-use crate::texts::write_text;
+use crate::writers::tell_writer;
 use fields::Cursor;
 use leap::Table;
 
-// Whether a word is a name without the blanks behind it.
-fn named(word: &[u8], name: [u8; 12]) -> bool {
-    let n = lines::front(&name, lines::until(&name, 0, 32));
-    check::same(word, &name[..n])
+// The calls whose answers are numbers.
+fn call(k: usize, line: &[u8], c: Cursor, t: Table) -> Said {
+    match k {
+        TABLE => said_taken(line, c),
+        READ_TEXT => read_text(line, c, t),
+        INSTANT_OF => instant_of(line, c, t),
+        STAMP_OF => stamp_of(line, c, t),
+        READ_JULIAN => read_julian(line, c, t),
+        WRITE_JULIAN => write_julian(line, c, t),
+        START => start(c, t),
+        TICK => tick(line, c, t),
+        _ => said_bad(c),
+    }
 }
 
-// Every call that leaves the table as it is: its word, and what answers it. A further call is a line here and a function in
-// the module of its subject.
-fn call(word: &[u8], line: &[u8], c: Cursor, t: Table) -> Said {
-    if named(word, *b"read_block  ") {
-        return read_block(line, c);
+fn tell_call(k: usize, line: &[u8], c: Cursor, t: Table, out: &mut [u8], at: usize) -> usize {
+    if k <= READ_KERNEL {
+        return tell_reading(k == READ_KERNEL, line, c, out, at);
     }
-    if named(word, *b"write_block ") {
-        return write_block(line, c, t);
+    if k <= WRITE_KERNEL {
+        return tell_writer(k, line, c, t, out, at);
     }
-    if named(word, *b"read_text   ") {
-        return read_text(line, c, t);
-    }
-    if named(word, *b"write_text  ") {
-        return write_text(line, c, t);
-    }
-    if named(word, *b"instant_of  ") {
-        return instant_of(line, c, t);
-    }
-    if named(word, *b"stamp_of    ") {
-        return stamp_of(line, c, t);
-    }
-    if named(word, *b"read_julian ") {
-        return read_julian(line, c, t);
-    }
-    if named(word, *b"write_julian") {
-        return write_julian(line, c, t);
-    }
-    if named(word, *b"start       ") {
-        return start(c, t);
-    }
-    if named(word, *b"tick        ") {
-        return tick(line, c, t);
-    }
-    said_tail(Tail::Bad, c)
+    tell(kept(line, call(k, line, c, t)), out, at)
 }
 
-// What was said, if the words were good to the end of the line.
-fn kept(line: &[u8], s: Said) -> Said {
-    if fields::ended(line, s.next) {
-        return s;
+// The table after a line.
+fn next_table(k: usize, line: &[u8], c: Cursor, t: Table) -> Table {
+    if k == TABLE {
+        return table_after(line, c, t);
     }
-    said_tail(Tail::Bad, s.next)
+    t
 }
 
-// The answer to a line, and the table after it.
-pub(crate) fn answer(line: &[u8], t: Table) -> Answered {
+// The state between two lines: whether the input goes on, the bytes held of a line, those of answers, and the table.
+pub struct State {
+    pub open: bool,
+    pub len: usize,
+    pub used: usize,
+    pub table: Table,
+}
+
+// Answers a line.
+pub(crate) fn answer(line: &[u8], t: Table, out: &mut [u8], at: usize) -> State {
     let end = lines::front(line, lines::until(line, 0, 32));
+    let k = call_of(&line[..end]);
     let c = Cursor {
         at: end,
         fine: true,
     };
-    if named(&line[..end], *b"table       ") {
-        return set_table(line, c, t);
+    let next = tell_call(k, line, c, t, out, at);
+    State {
+        open: true,
+        len: 0,
+        used: digits::append(out, next, b"\n"),
+        table: next_table(k, line, c, t),
     }
-    let said = kept(line, call(&line[..end], line, c, t));
-    Answered { said, table: t }
 }

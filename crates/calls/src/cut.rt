@@ -1,4 +1,4 @@
-// Lines of at most 2,048 bytes out of chunks.
+// Lines out of chunks.
 ghost use Prim.Native.Nat.{_≤_, _<_};
 ghost use lib.ListN.{length};
 

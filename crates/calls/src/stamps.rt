@@ -1,6 +1,5 @@
 // Instants, stamps and the clock.
 use crate::said::Said;
-use crate::said::Tail;
 use crate::said::refused;
 use crate::said::said_numbers;
 use clock::TickAnswer;
@@ -38,13 +37,8 @@ fn label_field(line: &[u8], c: Cursor) -> LabelField {
 
 pub(crate) fn said_instant(a: InstantAnswer, next: Cursor) -> Said {
     match a {
-        InstantAnswer::At(x) => said_numbers(
-            Tail::Nothing,
-            2,
-            [0, x, 0, 0, 0, 0, 0, 0, 0, 0],
-            next,
-        ),
-        InstantAnswer::Refused(why) => refused(Tail::Nothing, 2, why, next),
+        InstantAnswer::At(x) => said_numbers(2, [0, x, 0, 0, 0, 0, 0, 0, 0, 0], next),
+        InstantAnswer::Refused(why) => refused(2, why, next),
     }
 }
 
@@ -83,7 +77,7 @@ pub(crate) fn stamp_numbers(first: i64, z: Stamp) -> [i64; 10] {
 
 // The numbers from the second on: it is the 0 of no refusal.
 fn said_stamp(z: Stamp, next: Cursor) -> Said {
-    let mut s = said_numbers(Tail::Nothing, 10, stamp_numbers(0, z), next);
+    let mut s = said_numbers(10, stamp_numbers(0, z), next);
     s.from = 1;
     s
 }
@@ -91,7 +85,7 @@ fn said_stamp(z: Stamp, next: Cursor) -> Said {
 fn stamped(a: StampAnswer, next: Cursor) -> Said {
     match a {
         StampAnswer::Stamped(z) => said_stamp(z, next),
-        StampAnswer::Refused(why) => refused(Tail::Nothing, 9, why, next),
+        StampAnswer::Refused(why) => refused(9, why, next),
     }
 }
 
@@ -119,8 +113,8 @@ fn label_numbers(l: Label) -> [i64; 10] {
 
 fn ticked(a: TickAnswer, next: Cursor) -> Said {
     match a {
-        TickAnswer::Next(l) => said_numbers(Tail::Nothing, 7, label_numbers(l), next),
-        TickAnswer::Refused(why) => refused(Tail::Nothing, 7, why, next),
+        TickAnswer::Next(l) => said_numbers(7, label_numbers(l), next),
+        TickAnswer::Refused(why) => refused(7, why, next),
     }
 }
 

@@ -1,18 +1,16 @@
 // Tables taken from words and told in numbers.
 use crate::said::Said;
-use crate::said::Tail;
+use crate::said::kept;
 use crate::said::said_numbers;
-use crate::said::said_tail;
+use crate::said::said_ok;
 use crate::said::whole;
+use crate::tell::number;
+use crate::tell::tell;
 use fields::Cursor;
+use fields::Field;
 use leap::Table;
 use leap::TableAnswer;
-
-// What is answered, and the table that the next call uses.
-pub struct Answered {
-    pub said: Said,
-    pub table: Table,
-}
+use leap::TableRead;
 
 // Stores k pairs of a month and an offset.
 fn take_pairs(
@@ -25,14 +23,15 @@ fn take_pairs(
     let mut c = from;
     let mut i = 0;
     while i < 64 {
-        if i < k {
-            let m = fields::u32_field(line, c);
-            let o = fields::i32_field(line, m.next);
-            months[i] = m.value;
-            let z = o.value;
-            offsets[i] = z;
-            c = o.next;
+        if k <= i {
+            return c;
         }
+        let m = fields::u32_field(line, c);
+        let o = fields::i32_field(line, m.next);
+        months[i] = m.value;
+        let z = o.value;
+        offsets[i] = z;
+        c = o.next;
         i += 1;
     }
     c
@@ -55,69 +54,68 @@ fn table_field(line: &[u8], c: Cursor) -> TableField {
 }
 
 // table COUNT K M O M O ..
-pub(crate) fn set_table(line: &[u8], c: Cursor, t: Table) -> Answered {
+pub(crate) fn said_taken(line: &[u8], c: Cursor) -> Said {
     let f = table_field(line, c);
-    let next = f.next;
-    if fields::ended(line, next) {
-        let table = f.table;
-        let said = said_tail(Tail::Ok, next);
-        return Answered { said, table };
-    }
-    let said = said_tail(Tail::Bad, next);
-    Answered { said, table: t }
+    said_ok(f.next)
 }
 
-// i + 1 where the place i is not zero, else k.
-fn later(k: usize, i: usize, m: u32, o: i32) -> usize {
-    if 63 < i {
-        return k;
+// The table after the line `table COUNT K M O M O ..`.
+pub(crate) fn table_after(line: &[u8], c: Cursor, t: Table) -> Table {
+    let f = table_field(line, c);
+    if fields::ended(line, f.next) {
+        return f.table;
     }
-    if m != 0 {
-        return i + 1;
-    }
-    if o != 0 {
-        return i + 1;
-    }
-    k
+    t
 }
 
-fn month_number(m: u32) -> i64 {
-    m as i64
-}
+// ---- tables told
 
 fn offset_number(o: i32) -> i64 {
     o as i64
 }
 
-// The pairs of a table, and one more than the last place that is not zero.
-pub struct Places {
-    pub used: usize,
-    pub pairs: [i64; 128],
+fn tell_pair(m: u32, o: i32, out: &mut [u8], at: usize) -> usize {
+    let next = number(out, at, false, m as i64);
+    number(out, next, false, offset_number(o))
 }
 
-fn places_of(months: &[u32; 64], offsets: &[i32; 64]) -> Places {
-    let mut pairs = [0i64; 128];
-    let mut used = 0;
+// The first k pairs.
+fn tell_pairs<'a>(
+    months: &'a [u32; 64],
+    offsets: &'a [i32; 64],
+    k: usize,
+    out: &mut [u8],
+    at: usize,
+) -> usize {
+    let mut next = at;
     let mut i = 0;
     while i < 64 {
-        used = later(used, i, months[i], offsets[i]);
-        pairs[2 * i] = month_number(months[i]);
-        pairs[2 * i + 1] = offset_number(offsets[i]);
+        if k <= i {
+            return next;
+        }
+        next = tell_pair(months[i], offsets[i], out, next);
         i += 1;
     }
-    Places { used, pairs }
+    next
 }
 
-// How many numbers so many pairs have.
-fn twice(pairs: usize) -> usize {
-    if pairs < 65 {
-        return 2 * pairs;
+// One more than the last place that is not zero.
+fn places_used<'a>(months: &'a [u32; 64], offsets: &'a [i32; 64]) -> usize {
+    let mut k = 64;
+    while 0 < k {
+        if months[k - 1] != 0 {
+            return k;
+        }
+        if offsets[k - 1] != 0 {
+            return k;
+        }
+        k -= 1;
     }
     0
 }
 
 // The refusal, the place, the count and how many pairs there are.
-fn block_numbers(a: TableAnswer, count: i64, used: i64) -> [i64; 10] {
+fn head_numbers(a: TableAnswer, count: i64, used: i64) -> [i64; 10] {
     match a {
         TableAnswer::Read => [0, 0, count, used, 0, 0, 0, 0, 0, 0],
         TableAnswer::Refused(why, place) => {
@@ -127,26 +125,70 @@ fn block_numbers(a: TableAnswer, count: i64, used: i64) -> [i64; 10] {
     }
 }
 
-fn said_table(a: TableAnswer, t: Table, next: Cursor) -> Said {
-    let months = t.months;
-    let offsets = t.offsets;
-    let p = places_of(&months, &offsets);
-    let used = p.used;
-    let pairs = p.pairs;
-    let numbers = block_numbers(a, whole(t.count), whole(used));
-    let mut s = said_numbers(Tail::Pairs, 4, numbers, next);
-    s.size = twice(used);
-    s.pairs = pairs;
-    s
+// ---- tables read
+
+pub struct Reading {
+    pub read: TableRead,
+    pub next: Cursor,
 }
 
-// read_block HEX
-pub(crate) fn read_block(line: &[u8], c: Cursor) -> Said {
+// How many bytes are read: none where the line is bad, so that no pairs are told.
+fn size(line: &[u8], f: Field) -> usize {
+    if fields::ended(line, f.next) {
+        return f.value as usize;
+    }
+    0
+}
+
+fn read_bytes(is_kernel: bool, bytes: &[u8]) -> TableRead {
+    if is_kernel {
+        return kernel::read_kernel(bytes);
+    }
+    block::read_block(bytes)
+}
+
+// The bytes are held in what is lent.
+fn read_in(is_kernel: bool, line: &[u8], c: Cursor, bytes: &mut [u8]) -> Reading {
+    let f = fields::hex_field(line, c, bytes);
+    let n = lines::front(bytes, size(line, f));
+    let read = read_bytes(is_kernel, &bytes[..n]);
+    let next = f.next;
+    Reading { read, next }
+}
+
+fn read_long(is_kernel: bool, line: &[u8], c: Cursor) -> Reading {
+    let mut bytes = [0u8; 70000];
+    read_in(is_kernel, line, c, &mut bytes)
+}
+
+fn read_table(is_kernel: bool, line: &[u8], c: Cursor) -> Reading {
+    if 2048 < line.len() {
+        return read_long(is_kernel, line, c);
+    }
     let mut bytes = [0u8; 1024];
-    let f = fields::hex_field(line, c, &mut bytes);
-    let n = lines::front(&bytes, f.value as usize);
-    let r = block::read_block(&bytes[..n]);
-    let answer = r.answer;
-    let table = r.table;
-    said_table(answer, table, f.next)
+    read_in(is_kernel, line, c, &mut bytes)
+}
+
+// NO PLACE COUNT K M O ..
+fn tell_table(line: &[u8], r: Reading, out: &mut [u8], at: usize) -> usize {
+    let read = r.read;
+    let t = read.table;
+    let k = places_used(&t.months, &t.offsets);
+    let answer = read.answer;
+    let numbers = head_numbers(answer, whole(t.count), whole(k));
+    let said = kept(line, said_numbers(4, numbers, r.next));
+    let next = tell(said, out, at);
+    tell_pairs(&t.months, &t.offsets, k, out, next)
+}
+
+// read_block HEX, read_kernel HEX
+pub(crate) fn tell_reading(
+    is_kernel: bool,
+    line: &[u8],
+    c: Cursor,
+    out: &mut [u8],
+    at: usize,
+) -> usize {
+    let r = read_table(is_kernel, line, c);
+    tell_table(line, r, out, at)
 }

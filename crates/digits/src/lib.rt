@@ -59,7 +59,7 @@ pub fn append(out: &mut [u8], at: usize, text: &[u8]) -> usize
 
 // ---- decimals in
 
-fn is_digit(b: u8) -> bool
+pub fn is_digit(b: u8) -> bool
     ensures { λ r. ⌜ r ≡ isDigit b ⌝ }
 {
     if b < b'0' {
@@ -69,7 +69,7 @@ fn is_digit(b: u8) -> bool
 }
 
 // What a digit stands for, 0 for any other byte.
-fn value(b: u8) -> u8
+pub fn digit_value(b: u8) -> u8
     ensures { λ r. ⌜ (r ≡ digitValue b) × (r ≤ 9) ⌝ }
 {
     if is_digit(b) {
@@ -92,7 +92,7 @@ pub fn decimal(word: &[u8], most: u64) -> Number
         if !is_digit(b) {
             return Number::Bad;
         }
-        let d = value(b) as u64;
+        let d = digit_value(b) as u64;
         if most / 10 < n {
             return Number::Bad;
         }

@@ -22,6 +22,14 @@ pub none-below : (n x : ℕ) → NoneBelow n x → n ≤ x
 none-below zero x t = omega arith
 none-below (suc n) x t = omega (arith, none-below n x (t .0), t .1)
 
+-- an arm of such a `match` answers with what stands at its own number
+pub in-arm : (t : List (List (List ℕ))) (k i : ℕ) {r : ℕ} → k / 192 ≡ i → r ≡ getD (getD (getD t i []) (k / 48 % 4) []) (k % 48) 0 → r ≡ entryOf t k
+unfolding entryOf
+in-arm t k i h e = e ∙ ap (λ (b : ℕ). getD (getD (getD t b []) (k / 48 % 4) []) (k % 48) 0) (sym h)
+
+pub in-row-arm : (g : List (List ℕ)) (k i : ℕ) {r : ℕ} → k / 48 % 4 ≡ i → r ≡ getD (getD g i []) (k % 48) 0 → r ≡ getD (getD g (k / 48 % 4) []) (k % 48) 0
+in-row-arm g k i h e = e ∙ ap (λ (b : ℕ). getD (getD g b []) (k % 48) 0) (sym h)
+
 module _ {A : Type 0} where
   abbrev pub joined : List (List A) → List A
   joined [] = []

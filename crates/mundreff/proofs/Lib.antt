@@ -1,5 +1,2 @@
 pub mod Results
-pub mod Words
-pub mod Laid
-pub mod Bits
 pub mod Settled

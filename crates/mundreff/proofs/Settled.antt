@@ -6,7 +6,7 @@ use lib.IntN.{ℤ}
 use denote.Ref.{now}
 use Rattle.answer.specs.Buffers.{writtenResults}
 use Rattle.text.specs.Text.{writeText, writeTextAfter}
-use Rattle.mundreff.specs.Words.{tableFrom}
+use Rattle.words.specs.Words.{tableFrom}
 use Rattle.laws.specs.Settles.{_&_, Lent, _becomes_, LeavesTwo, also}
 use Rattle.laws.proofs.Settles.{beside}
 use Rattle.mundreff.proofs.mundreff_write_text.Reads as write-text

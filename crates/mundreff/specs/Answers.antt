@@ -18,7 +18,7 @@ use Rattle.text.specs.declared.TextAnswer.{TextAnswer}
 use Rattle.text.specs.Text.{textResults}
 use Rattle.julian.specs.declared.JulianAnswer.{JulianAnswer}
 use Rattle.julian.specs.Dates.{julianResults}
-use Rattle.mundreff.specs.Words.{tableWords}
+use Rattle.words.specs.Words.{tableWords}
 
 abbrev pub tableNumbers : TableRead → ℕ × ℕ × List ℕ
 tableNumbers b = (tableResults b .0, tableResults b .1, tableWords (tableResults b .2))

@@ -1,9 +1,6 @@
 // The C interface of include/mundreff.h: each call answers the refusal's number, 0 on success, and writes every output on every call.
 // A call takes the table out of its words, asks the crate whose work it is, and stores what `Answers` of specs/ says of the answer.
 ghost use mathlib.Core.Path.{_≡_};
-ghost use mathlib.Core.List.{map};
-ghost use lib.ListN.{length};
-ghost use Rattle.laws.specs.Placed.{place};
 ghost use Rattle.answer.specs.Buffers.{writtenResults};
 ghost use Rattle.leap.specs.Leap.{bulletinC};
 ghost use Rattle.labels.specs.Labels.{fields};
@@ -12,9 +9,11 @@ ghost use Rattle.clock.specs.Clock.{start, tick};
 ghost use Rattle.block.specs.Reading.{readBlock};
 ghost use Rattle.text.specs.Text.{readText, writeText, writeTextAfter};
 ghost use Rattle.julian.specs.Dates.{writeJulian, readJulian};
-ghost use Rattle.mundreff.specs.Words.{offsetFrom, offsetWord, wordsAt, tableFrom, tableWords};
+ghost use Rattle.words.specs.Words.{tableFrom, tableWords};
 ghost use Rattle.mundreff.specs.Answers.{tableNumbers, stampFields, stampNumbers, textNumbers, labelNumbers, pairNumbers};
 ghost use Rattle.block.specs.Blocks.{writeBlock, writeBlockAfter};
+ghost use Rattle.kernel.specs.Reading.{readKernel};
+ghost use Rattle.kernel.specs.Writing.{writeKernel, writeKernelAfter};
 ghost use Rattle.mundreff.specs.Calls.{labelFrom, scaleFrom, readingFrom, pair};
 use answer::Written;
 use clock::TickAnswer;
@@ -22,64 +21,16 @@ use julian::JulianAnswer;
 use julian::JulianDate;
 use labels::Label;
 use labels::Reading;
-use leap::Table;
 use leap::TableAnswer;
 use leap::TableRead;
 use stamp::InstantAnswer;
 use stamp::Stamp;
 use stamp::StampAnswer;
 use text::TextAnswer;
+use words::store_table;
+use words::table_of;
 
 // ---- what C hands over
-
-// No cast keeps the bits of a number with its top bit set, so these go by its distance from -1; both compile to nothing.
-fn offset_of(word: u32) -> i32
-    ensures { λ r. ⌜ r ≡ offsetFrom word ⌝ }
-{
-    if word < 2147483648 {
-        return word as i32;
-    }
-    -1 - ((4294967295 - word) as i32)
-}
-
-fn count_of(word: u32) -> usize
-    ensures { λ r. ⌜ r ≡ word ⌝ }
-{
-    word as usize
-}
-
-fn months_of(words: &[u32; 129]) -> [u32; 64]
-    ensures { λ r. ⌜ r ≡ wordsAt 1 64 (now (words .entry)) ⌝ }
-{
-    let mut months = [0; 64];
-    let mut k = 0;
-    while k < 64 {
-        months[k] = words[1 + k];
-        k += 1;
-    }
-    months
-}
-
-fn offsets_of(words: &[u32; 129]) -> [i32; 64]
-    ensures { λ r. ⌜ r ≡ map offsetFrom (wordsAt 65 64 (now (words .entry))) ⌝ }
-{
-    let mut offsets = [0; 64];
-    let mut k = 0;
-    while k < 64 {
-        offsets[k] = offset_of(words[65 + k]);
-        k += 1;
-    }
-    offsets
-}
-
-fn table_of(words: &[u32; 129]) -> Table
-    ensures { λ r. ⌜ r ≡ tableFrom (now (words .entry)) ⌝ }
-{
-    let count = count_of(words[0]);
-    let months = months_of(words);
-    let offsets = offsets_of(words);
-    leap::tabled(count, &months, &offsets)
-}
 
 fn label_of(numbers: &[u32; 6]) -> Label
     ensures { λ r. ⌜ r ≡ labelFrom 0 (now (numbers .entry)) ⌝ }
@@ -112,49 +63,6 @@ fn reading_of(stamp: &[u32; 8]) -> Reading
 }
 
 // ---- what C is handed: each `give_` stores the values of an answer, zero on a refusal, and returns its number
-
-fn word_of(offset: i32) -> u32
-    ensures { λ r. ⌜ r ≡ offsetWord offset ⌝ }
-{
-    if offset < 0 {
-        return 4294967295 - ((-1 - offset) as u32);
-    }
-    offset as u32
-}
-
-fn store_months(months: [u32; 64], out: &mut [u32; 129])
-    requires { ⌜ length (now out) ≡ 129 ⌝ }
-    ensures { λ _. ⌜ (length months ≡ 64) × (now (out .exit) ≡ place (now (out .entry)) 1 months) ⌝ }
-{
-    let mut k = 0;
-    while k < 64 {
-        out[1 + k] = months[k];
-        k += 1;
-    }
-}
-
-fn store_offsets(offsets: [i32; 64], out: &mut [u32; 129])
-    requires { ⌜ length (now out) ≡ 129 ⌝ }
-    ensures { λ _. ⌜ (length offsets ≡ 64) × (now (out .exit) ≡ place (now (out .entry)) 65 (map offsetWord offsets)) ⌝ }
-{
-    let mut k = 0;
-    while k < 64 {
-        let offset = offsets[k];
-        out[65 + k] = word_of(offset);
-        k += 1;
-    }
-}
-
-fn store_table(t: Table, out: &mut [u32; 129])
-    ensures { λ _. ⌜ now (out .exit) ≡ tableWords t ⌝ }
-{
-    let months = t.months;
-    let offsets = t.offsets;
-    *out = [0; 129];
-    out[0] = (t.count % 4294967296) as u32;
-    store_months(months, out);
-    store_offsets(offsets, out);
-}
 
 fn store_label(l: Label, out: &mut [u32; 6])
     ensures { λ _. ⌜ now (out .exit) ≡ fields l ⌝ }
@@ -329,6 +237,29 @@ pub extern "C" fn mundreff_write_block(
     ensures { λ _. ⌜ now (out .exit) ≡ writeBlockAfter (tableFrom (now (table .entry))) (now (out .entry)) ⌝ }
 {
     give_length(block::write_block(table_of(table), out), length)
+}
+
+#[no_mangle]
+pub extern "C" fn mundreff_read_kernel<'a>(
+    file: &[u8],
+    place: &'a mut usize,
+    table: &'a mut [u32; 129],
+) -> u32
+    ensures { λ r. ⌜ (r, now (place .exit), now (table .exit)) ≡ tableNumbers (readKernel (now (file .entry))) ⌝ }
+{
+    give_table(kernel::read_kernel(file), place, table)
+}
+
+#[no_mangle]
+pub extern "C" fn mundreff_write_kernel(
+    table: &[u32; 129],
+    out: &mut [u8],
+    length: &mut usize,
+) -> u32
+    ensures { λ r. ⌜ (r, now (length .exit)) ≡ writtenResults (writeKernel (tableFrom (now (table .entry))) (now (out .entry))) ⌝ }
+    ensures { λ _. ⌜ now (out .exit) ≡ writeKernelAfter (tableFrom (now (table .entry))) (now (out .entry)) ⌝ }
+{
+    give_length(kernel::write_kernel(table_of(table), out), length)
 }
 
 #[no_mangle]

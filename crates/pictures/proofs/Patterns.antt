@@ -1,6 +1,6 @@
 -- Patterns: byte by byte, from the front, and at a place.
 -- Assumes nothing.
-use mathlib.Core.Path.{_≡_, refl, sym, ap, subst, _∙_}
+use mathlib.Core.Path.{_≡_, refl, sym, ap, ap₂, subst, _∙_}
 use mathlib.Core.Bool.{Bool, true, false, not, _&&_}
 use mathlib.Core.Logic.{_⊎_, inl, inr, ⊎-elim}
 use mathlib.Core.List.{List, [], _∷_, _++_}
@@ -16,7 +16,9 @@ use Rattle.laws.proofs.Branches.{and-no, holds}
 use Rattle.laws.proofs.Cases.{both, and-l, and-r, join, one-of}
 use Rattle.digits.specs.Decimals.{digitValue, allDigits}
 use Rattle.pictures.specs.Parts.{Digits, Numbers, Fills}
-use Rattle.pictures.specs.Reading.{asShown, like, inFull, rightLength, hasPicture}
+use Rattle.pictures.specs.declared.Date.{Date}
+use Rattle.pictures.specs.declared.Fields.{Fields}
+use Rattle.pictures.specs.Reading.{asShown, like, inFull, rightLength, hasPicture, fieldsIn}
 
 and-assoc : (a b c : Bool) → ((a && b) && c) ≡ (a && (b && c))
 and-assoc true b c = refl
@@ -134,3 +136,7 @@ module _ (cs : List ℕ) (n : ℕ) {s t : List ℕ} {r : Bool} (f : Fills cs n s
 
   pub is-short : length s ≤ n + 7
   is-short = length-most n (length s) (and-l _ (like cs (inFull cs s)) has-it)
+
+-- the fields that were read from a text are those of the text in full
+pub fields-from : (at : ℕ) (date : List ℕ → Date) {t u : List ℕ} {k n : ℕ} {d : Date} {r : Fields} → r ≡ fieldsIn t at k d → k ≡ n → d ≡ date t → t ≡ u → r ≡ fieldsIn u at n (date u)
+fields-from at date {t} {n = n} e p q g = e ∙ ap₂ (fieldsIn t at) p q ∙ ap (λ (x : List ℕ). fieldsIn x at n (date x)) g

@@ -2,8 +2,8 @@
 -- Assumes nothing.
 use mathlib.Core.Path.{refl}
 use Rattle.answer.proofs.Orders.{number-some, numbers-differ}
-use Rattle.mundreff.specs.Words.{tableWords}
-use Rattle.mundreff.proofs.Words.{undone}
+use Rattle.words.specs.Words.{tableWords}
+use Rattle.words.proofs.Words.{undone}
 use Rattle.promises.specs.Answers.{Answers}
 
 pub answers : Answers

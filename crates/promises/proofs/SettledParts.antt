@@ -14,6 +14,7 @@ use Rattle.laws.proofs.Cases.{and-r}
 use Rattle.laws.specs.Placed.{place}
 use Rattle.digits.specs.Bytes.{endOf, appended, Counts, Appended}
 use Rattle.digits.proofs.Bytes.{room-yes, room-no}
+use Rattle.digits.proofs.Decimals.{value-most}
 use Rattle.lines.specs.Words.{before}
 use Rattle.lines.specs.Pairs.{nibble}
 use Rattle.fields.specs.declared.Cursor.{Cursor}
@@ -21,7 +22,7 @@ use Rattle.fields.specs.declared.U32Field.{U32Field}
 use Rattle.fields.specs.declared.I32Field.{I32Field}
 use Rattle.laws.specs.Settles.{Lent, Settles}
 use Rattle.laws.proofs.Settles.{equal, each, following}
-use Rattle.promises.specs.SettledParts.{SettledParts, SettledTables, SettledBytes}
+use Rattle.promises.specs.SettledParts.{SettledParts, SettledTables, SettledBytes, SettledKinds}
 
 pub settled-parts : SettledParts
 settled-parts =
@@ -114,6 +115,8 @@ settled-bytes =
       append-unsigned = λ out at n k. appends;
       append-signed = λ out at z k. appends;
       append-hex = λ out at bytes k. appends;
+      is-digit = λ b k. equal;
+      digit-value = λ b k. following (λ r. r ≤ 9) (value-most b);
       decimal = λ word most k. equal;
       digits = λ n k. equal;
       month-name = λ m k. equal;
@@ -138,4 +141,25 @@ settled-bytes =
       pattern-field = λ line c k. equal;
       double = λ bits k. equal;
       pattern = λ x k. equal;
+    }
+
+pub settled-kinds : SettledKinds
+settled-kinds =
+    record {
+      is-white = λ b k. equal;
+      is-gap = λ b k. equal;
+      is-between = λ b k. equal;
+      is-run = λ b k. equal;
+      is-name = λ b k. equal;
+      pick = λ test yes other k. equal;
+      ours-next = λ j b k. equal;
+      data-next = λ j b k. equal;
+      text-next = λ j b k. equal;
+      grow = λ n b k. equal;
+      grow-year = λ year b k. equal;
+      years-begin = λ j year k. equal;
+      capital = λ b k. equal;
+      month-on = λ from j c k. equal;
+      month-number = λ year m k. equal;
+      step = λ have at m b k. equal;
     }

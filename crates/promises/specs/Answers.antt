@@ -30,7 +30,7 @@ use Rattle.julian.specs.Dates.{julianResults}
 use Rattle.leap.specs.declared.Table.{Table}
 use Rattle.leap.specs.Readers.{noTable, found, refusedAt, tableResults}
 use Rattle.block.specs.Desk.{tableN}
-use Rattle.mundreff.specs.Words.{offsetWord, tableWords, Undone}
+use Rattle.words.specs.Words.{offsetWord, tableWords, Undone}
 use Rattle.mundreff.specs.Answers.{tableNumbers, stampFields, stampNumbers, labelNumbers, textNumbers, pairNumbers}
 use Rattle.mundreff.specs.Calls.{labelFrom, scaleFrom, readingFrom}
 

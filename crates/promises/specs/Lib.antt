@@ -8,6 +8,7 @@ pub mod Writers
 pub mod Stamps
 pub mod Text
 pub mod Blocks
+pub mod Kernels
 pub mod Clock
 pub mod Julian
 pub mod Listing

@@ -1,6 +1,6 @@
 -- The scope's paragraph "Order": the tests of each call in one list, each with its refusal. `Orders` has the numbers of each list, to be held against the
 -- paper. `GivenExactly` says that the number which a call answers is that of the first test of its list that fails, and 0 where none does.
--- Reading a block has no list: it answers the first fault from the left (`ReadsBlock` of `block`).
+-- Reading a block or a kernel has no list: it answers the first fault from the left (`ReadsBlock` of `block`, `ReadsKernel` of `kernel`).
 -- Assumes nothing.
 use mathlib.Core.Path.{_≡_}
 use mathlib.Core.Logic.{_↔_}
@@ -27,6 +27,7 @@ use Rattle.stamp.specs.Scales.{scaleOf, knownScale, offsetsOf, mostSecond, inst
 use Rattle.stamp.specs.Stamps.{instantOf, instantResults, stampOf, stampResults}
 use Rattle.clock.specs.Clock.{start, tick, tickResults}
 use Rattle.block.specs.Blocks.{blockOf, writeBlock}
+use Rattle.kernel.specs.Writing.{kernelOf, writeKernel}
 use Rattle.pictures.specs.declared.Date.{Date}
 use Rattle.pictures.specs.declared.Date.the-variants.{Numbered, OfYear, Named}
 use Rattle.pictures.specs.declared.Fields.{Fields}
@@ -128,6 +129,10 @@ ShownBy p r = (admitted uniform 59 r ≡ true) × (microOf r ≡ microRead p)
 abbrev pub writeBlockTests : Table → List ℕ → List (Bool × Refusal)
 writeBlockTests t buffer = (accepted t, TABLE) ∷ (leb (length (blockOf t)) (length buffer), ROOM) ∷ []
 
+-- `write_kernel`
+abbrev pub writeKernelTests : Table → List ℕ → List (Bool × Refusal)
+writeKernelTests t buffer = (accepted t, TABLE) ∷ (leb (length (kernelOf t)) (length buffer), ROOM) ∷ []
+
 -- `start`
 abbrev pub startTests : Table → List (Bool × Refusal)
 startTests t = (accepted t, TABLE) ∷ []
@@ -160,6 +165,7 @@ pub record Orders : Type 0 where
   -- 13, 7, then rounding, 7 again, 6
   pub read-julian : (t : Table) (k : ℕ) (p : JulianDate) (r : Reading) → order (readJulianTests t k p r) ≡ 8 ∷ 11 ∷ 13 ∷ 7 ∷ 7 ∷ 6 ∷ []
   pub write-block : (t : Table) (buffer : List ℕ) → order (writeBlockTests t buffer) ≡ 11 ∷ 1 ∷ []
+  pub write-kernel : (t : Table) (buffer : List ℕ) → order (writeKernelTests t buffer) ≡ 11 ∷ 1 ∷ []
   pub start-the-clock : (t : Table) → order (startTests t) ≡ 11 ∷ []
   pub tick-the-clock : (t : Table) (l : Label) → order (tickTests t l) ≡ 11 ∷ 3 ∷ 4 ∷ 5 ∷ 6 ∷ 7 ∷ []
 
@@ -176,6 +182,7 @@ pub record GivenExactly (t : Table) : Type 0 where
   pub read-julian : (k : ℕ) (p : JulianDate) (r : Reading) → ShownBy p r → instantResults (readJulian t k p) .0 ≡ verdict (readJulianTests t k p r)
   pub read-no-reading : (k : ℕ) (p : JulianDate) → ((r : Reading) → ShownBy p r → ⊥) → (r : Reading) → instantResults (readJulian t k p) .0 ≡ verdict (readJulianTests t k p r)
   pub write-block : (buffer : List ℕ) → writtenResults (writeBlock t buffer) .0 ≡ verdict (writeBlockTests t buffer)
+  pub write-kernel : (buffer : List ℕ) → writtenResults (writeKernel t buffer) .0 ≡ verdict (writeKernelTests t buffer)
   pub start-the-clock : tickResults (start t) .0 ≡ verdict (startTests t)
   pub tick-the-clock : (l : Label) → tickResults (tick t l) .0 ≡ verdict (tickTests t l)
 

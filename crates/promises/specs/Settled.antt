@@ -14,6 +14,8 @@ use Rattle.stamp.specs.Stamps.{instantOf, stampOf}
 use Rattle.clock.specs.Clock.{start, tick}
 use Rattle.block.specs.Blocks.{writeBlock, writeBlockAfter}
 use Rattle.block.specs.Reading.{readBlock}
+use Rattle.kernel.specs.Reading.{readKernel}
+use Rattle.kernel.specs.Writing.{writeKernel, writeKernelAfter}
 use Rattle.text.specs.Text.{readText, writeText, writeTextAfter}
 use Rattle.julian.specs.declared.JulianDate.{JulianDate}
 use Rattle.julian.specs.Dates.{writeJulian, readJulian}
@@ -22,6 +24,8 @@ use Rattle.laws.specs.Settles.{_&_, Lent, _becomes_, Returns, Leaves}
 use Rattle.leap.proofs.bulletin_c.Reads as leap-bulletin-c
 use Rattle.block.proofs.read_block.Reads as block-read-block
 use Rattle.block.proofs.write_block.Reads as block-write-block
+use Rattle.kernel.proofs.read_kernel.Reads as kernel-read-kernel
+use Rattle.kernel.proofs.write_kernel.Reads as kernel-write-kernel
 use Rattle.stamp.proofs.instant_of.Reads as stamp-instant-of
 use Rattle.stamp.proofs.stamp_of.Reads as stamp-stamp-of
 use Rattle.text.proofs.read_text.Reads as text-read-text
@@ -32,13 +36,17 @@ use Rattle.clock.proofs.start.Reads as clock-start
 use Rattle.clock.proofs.tick.Reads as clock-tick
 use Rattle.listing.proofs.list.Reads as listing-list
 
--- the calls of the scope, and what `ticks` prints for an input
+-- the calls of the scope and of the requests, and what `ticks` prints for an input
 pub record Settled : Type 0 where
   pub bulletin-c : Returns leap-bulletin-c.Pre leap-bulletin-c.Post tt bulletinC
   pub read-block : (s : Lent (List ℕ)) → Returns block-read-block.Pre block-read-block.Post (s & tt) (readBlock (now s))
   pub write-block : (t : Table) (out : Lent (List ℕ)) →
       Leaves block-write-block.Pre block-write-block.Post (t & out & tt) (λ bytes. t & out becomes bytes & tt)
       (writeBlock t (now out), writeBlockAfter t (now out))
+  pub read-kernel : (s : Lent (List ℕ)) → Returns kernel-read-kernel.Pre kernel-read-kernel.Post (s & tt) (readKernel (now s))
+  pub write-kernel : (t : Table) (out : Lent (List ℕ)) →
+      Leaves kernel-write-kernel.Pre kernel-write-kernel.Post (t & out & tt) (λ bytes. t & out becomes bytes & tt)
+      (writeKernel t (now out), writeKernelAfter t (now out))
   pub instant-of : (t : Table) (scale : ℕ) (r : Reading) → Returns stamp-instant-of.Pre stamp-instant-of.Post (t & scale & r & tt) (instantOf t scale r)
   pub stamp-of : (t : Table) (instant : ℤ) (scale : ℕ) → Returns stamp-stamp-of.Pre stamp-stamp-of.Post (t & instant & scale & tt) (stampOf t instant scale)
   pub read-text : (t : Table) (scale : ℕ) (text : Lent (List ℕ)) → Returns text-read-text.Pre text-read-text.Post (t & scale & text & tt) (readText t scale (now text))

@@ -1,4 +1,4 @@
--- Each call of the C interface is settled by its own contract, over what is handed over as words: the number that it returns, and everything that it writes.
+-- Each call of the C interface is settled by its own contract, over what is handed over as words: the number that it returns, and everything that it writes; so are a table and its words.
 -- Assumes nothing.
 use mathlib.Core.List.{List}
 use Prim.Native.Nat.{ℕ}
@@ -6,20 +6,27 @@ use lib.IntN.{ℤ}
 use lib.Ieee.{Float}
 use denote.Ref.{now}
 use Rattle.answer.specs.Buffers.{writtenResults}
+use Rattle.leap.specs.declared.Table.{Table}
 use Rattle.leap.specs.Leap.{bulletinC}
 use Rattle.stamp.specs.Stamps.{instantOf, instantResults, stampOf}
 use Rattle.clock.specs.Clock.{start, tick}
 use Rattle.block.specs.Blocks.{writeBlock, writeBlockAfter}
 use Rattle.block.specs.Reading.{readBlock}
+use Rattle.kernel.specs.Reading.{readKernel}
+use Rattle.kernel.specs.Writing.{writeKernel, writeKernelAfter}
 use Rattle.text.specs.Text.{readText, writeText, writeTextAfter}
 use Rattle.julian.specs.Dates.{writeJulian, readJulian}
-use Rattle.mundreff.specs.Words.{tableFrom, tableWords}
+use Rattle.words.specs.Words.{tableFrom, tableWords}
 use Rattle.mundreff.specs.Answers.{tableNumbers, stampNumbers, textNumbers, labelNumbers, pairNumbers}
 use Rattle.mundreff.specs.Calls.{labelFrom, scaleFrom, readingFrom, pair}
-use Rattle.laws.specs.Settles.{_&_, Lent, _becomes_, Leaves, LeavesTwo, also}
+use Rattle.laws.specs.Settles.{_&_, Lent, _becomes_, Returns, Leaves, LeavesTwo, also}
+use Rattle.words.proofs.table_of.Reads as words-table-of
+use Rattle.words.proofs.store_table.Reads as words-store-table
 use Rattle.mundreff.proofs.mundreff_bulletin_c.Reads as c-bulletin-c
 use Rattle.mundreff.proofs.mundreff_read_block.Reads as c-read-block
 use Rattle.mundreff.proofs.mundreff_write_block.Reads as c-write-block
+use Rattle.mundreff.proofs.mundreff_read_kernel.Reads as c-read-kernel
+use Rattle.mundreff.proofs.mundreff_write_kernel.Reads as c-write-kernel
 use Rattle.mundreff.proofs.mundreff_instant_of.Reads as c-instant-of
 use Rattle.mundreff.proofs.mundreff_stamp_of.Reads as c-stamp-of
 use Rattle.mundreff.proofs.mundreff_read_text.Reads as c-read-text
@@ -30,6 +37,10 @@ use Rattle.mundreff.proofs.mundreff_start.Reads as c-start
 use Rattle.mundreff.proofs.mundreff_tick_in_place.Reads as c-tick-in-place
 
 pub record SettledInC : Type 0 where
+  -- a table out of its words, and back
+  pub table-of : (words : Lent (List ℕ)) → Returns words-table-of.Pre words-table-of.Post (words & tt) (tableFrom (now words))
+  pub table-stored : (t : Table) (out : Lent (List ℕ)) →
+      Leaves words-store-table.Pre words-store-table.Post (t & out & tt) (λ words. t & out becomes words & tt) (tt, tableWords t)
   pub bulletin-c : (table : Lent (List ℕ)) → Leaves c-bulletin-c.Pre c-bulletin-c.Post (table & tt) (λ words. table becomes words & tt) (0, tableWords bulletinC)
   pub read-block : (block : Lent (List ℕ)) (place : Lent ℕ) (table : Lent (List ℕ)) →
       LeavesTwo c-read-block.Pre c-read-block.Post (block & place & table & tt) (λ at words. block & place becomes at & table becomes words & tt)
@@ -37,6 +48,12 @@ pub record SettledInC : Type 0 where
   pub write-block : (table out : Lent (List ℕ)) (length : Lent ℕ) →
       LeavesTwo c-write-block.Pre c-write-block.Post (table & out & length & tt) (λ n bytes. table & out becomes bytes & length becomes n & tt)
       (also (writtenResults (writeBlock (tableFrom (now table)) (now out))) (writeBlockAfter (tableFrom (now table)) (now out)))
+  pub read-kernel : (file : Lent (List ℕ)) (place : Lent ℕ) (table : Lent (List ℕ)) →
+      LeavesTwo c-read-kernel.Pre c-read-kernel.Post (file & place & table & tt) (λ at words. file & place becomes at & table becomes words & tt)
+      (tableNumbers (readKernel (now file)))
+  pub write-kernel : (table out : Lent (List ℕ)) (length : Lent ℕ) →
+      LeavesTwo c-write-kernel.Pre c-write-kernel.Post (table & out & length & tt) (λ n bytes. table & out becomes bytes & length becomes n & tt)
+      (also (writtenResults (writeKernel (tableFrom (now table)) (now out))) (writeKernelAfter (tableFrom (now table)) (now out)))
   pub instant-of : (table stamp : Lent (List ℕ)) (instant : Lent ℤ) →
       Leaves c-instant-of.Pre c-instant-of.Post (table & stamp & instant & tt) (λ x. table & stamp & instant becomes x & tt)
       (instantResults (instantOf (tableFrom (now table)) (scaleFrom (now stamp)) (readingFrom (now stamp))))

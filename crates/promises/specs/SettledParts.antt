@@ -1,7 +1,7 @@
 -- What the crates ask of each other is settled too: every other public function, by its own contract.
 -- Assumes nothing.
 use mathlib.Core.List.{List, [], _∷_}
-use mathlib.Core.Bool.{_&&_}
+use mathlib.Core.Bool.{Bool, cond, _&&_}
 use Prim.Native.Nat.{ℕ, _+_, _-_, _^_, min}
 use lib.IntN.{ℤ}
 use lib.Dec.{eqb}
@@ -12,7 +12,7 @@ use Rattle.answer.specs.declared.Refusal.{Refusal}
 use Rattle.answer.specs.Refusals.{number}
 use Rattle.answer.specs.Buffers.{written, bufferAfter}
 use Rattle.digits.specs.Bytes.{endOf, appended}
-use Rattle.digits.specs.Decimals.{digitsOf, decimalOf, decimalText, signedText}
+use Rattle.digits.specs.Decimals.{isDigit, digitValue, digitsOf, decimalOf, decimalText, signedText}
 use Rattle.digits.specs.Months.{monthName, monthNamed}
 use Rattle.months.specs.Months.{daysBefore, monthLength}
 use Rattle.calendar.specs.Days.{dayOfYear}
@@ -29,6 +29,10 @@ use Rattle.stamp.specs.declared.Scale.{Scale}
 use Rattle.stamp.specs.Scales.{scaleOf, scaleNumber, asked}
 use Rattle.stamp.specs.Stamps.{instantIn, stampOf}
 use Rattle.stamp.specs.Back.{shownOf, instantShowing}
+use Rattle.kinds.specs.Kinds.{isWhite, isGap, isBetween, isRun, isName, upper, beginData, beginText, ours}
+use Rattle.kinds.specs.Parts.{matched, grown, yearsBegin, grownYear, monthOn, monthNumber}
+use Rattle.automaton.specs.declared.Mode.{Mode}
+use Rattle.automaton.specs.Step.{step}
 use Rattle.pictures.specs.declared.Fields.{Fields}
 use Rattle.pictures.specs.Pictures.{pictureText}
 use Rattle.pictures.specs.Reading.{readFields}
@@ -44,6 +48,8 @@ use Rattle.answer.proofs.number_of.Reads as answer-number-of
 use Rattle.answer.proofs.write.Reads as answer-write
 use Rattle.digits.proofs.byte_at.Reads as digits-byte-at
 use Rattle.digits.proofs.append.Reads as digits-append
+use Rattle.digits.proofs.is_digit.Reads as digits-is-digit
+use Rattle.digits.proofs.digit_value.Reads as digits-digit-value
 use Rattle.digits.proofs.decimal.Reads as digits-decimal
 use Rattle.digits.proofs.digits.Reads as digits-digits
 use Rattle.digits.proofs.append_unsigned.Reads as digits-append-unsigned
@@ -74,6 +80,22 @@ use Rattle.stamp.proofs.shown_of.Reads as stamp-shown-of
 use Rattle.stamp.proofs.instant_showing.Reads as stamp-instant-showing
 use Rattle.pictures.proofs.write_fields.Reads as pictures-write-fields
 use Rattle.pictures.proofs.read_fields.Reads as pictures-read-fields
+use Rattle.kinds.proofs.is_white.Reads as kinds-is-white
+use Rattle.kinds.proofs.is_gap.Reads as kinds-is-gap
+use Rattle.kinds.proofs.is_between.Reads as kinds-is-between
+use Rattle.kinds.proofs.is_run.Reads as kinds-is-run
+use Rattle.kinds.proofs.is_name.Reads as kinds-is-name
+use Rattle.kinds.proofs.pick.Reads as kinds-pick
+use Rattle.kinds.proofs.ours_next.Reads as kinds-ours-next
+use Rattle.kinds.proofs.data_next.Reads as kinds-data-next
+use Rattle.kinds.proofs.text_next.Reads as kinds-text-next
+use Rattle.kinds.proofs.grow.Reads as kinds-grow
+use Rattle.kinds.proofs.grow_year.Reads as kinds-grow-year
+use Rattle.kinds.proofs.years_begin.Reads as kinds-years-begin
+use Rattle.kinds.proofs.capital.Reads as kinds-capital
+use Rattle.kinds.proofs.month_on.Reads as kinds-month-on
+use Rattle.kinds.proofs.month_number.Reads as kinds-month-number
+use Rattle.automaton.proofs.step.Reads as automaton-step
 use Rattle.lines.proofs.until.Reads as lines-until
 use Rattle.lines.proofs.front.Reads as lines-front
 use Rattle.lines.proofs.hex_digit.Reads as lines-hex-digit
@@ -140,6 +162,8 @@ pub record SettledBytes : Type 0 where
   pub append-hex : (out : Lent (List ℕ)) (at : ℕ) (bytes : Lent (List ℕ)) →
       Leaves lines-append-hex.Pre lines-append-hex.Post (out & at & bytes & tt) (λ after. out becomes after & at & bytes & tt)
       (endOf (now out) at (hexShown (now bytes)), appended (now out) at (hexShown (now bytes)))
+  pub is-digit : (b : ℕ) → Returns digits-is-digit.Pre digits-is-digit.Post (b & tt) (isDigit b)
+  pub digit-value : (b : ℕ) → Returns digits-digit-value.Pre digits-digit-value.Post (b & tt) (digitValue b)
   pub decimal : (word : Lent (List ℕ)) (most : ℕ) → Returns digits-decimal.Pre digits-decimal.Post (word & most & tt) (decimalOf most (now word))
   pub digits : (n : ℕ) → Returns digits-digits.Pre digits-digits.Post (n & tt) (digitsOf 6 n)
   pub month-name : (month : ℕ) → Returns digits-month-name.Pre digits-month-name.Post (month & tt) (monthName month)
@@ -169,3 +193,22 @@ pub record SettledBytes : Type 0 where
   pub pattern-field : (line : Lent (List ℕ)) (c : Cursor) → Returns fields-pattern-field.Pre fields-pattern-field.Post (line & c & tt) (patternAt (now line) c)
   pub double : (bits : ℕ) → Returns fields-double.Pre fields-double.Post (bits & tt) (ofBits binary64 bits)
   pub pattern : (x : Float) → Returns fields-pattern.Pre fields-pattern.Post (x & tt) (toBits binary64 x)
+
+-- a kernel's bytes: of which kind one is, and what is read in part with one byte more
+pub record SettledKinds : Type 0 where
+  pub is-white : (b : ℕ) → Returns kinds-is-white.Pre kinds-is-white.Post (b & tt) (isWhite b)
+  pub is-gap : (b : ℕ) → Returns kinds-is-gap.Pre kinds-is-gap.Post (b & tt) (isGap b)
+  pub is-between : (b : ℕ) → Returns kinds-is-between.Pre kinds-is-between.Post (b & tt) (isBetween b)
+  pub is-run : (b : ℕ) → Returns kinds-is-run.Pre kinds-is-run.Post (b & tt) (isRun b)
+  pub is-name : (b : ℕ) → Returns kinds-is-name.Pre kinds-is-name.Post (b & tt) (isName b)
+  pub pick : (test : Bool) (yes other : ℕ) → Returns kinds-pick.Pre kinds-pick.Post (test & yes & other & tt) (cond test yes other)
+  pub ours-next : (k b : ℕ) → Returns kinds-ours-next.Pre kinds-ours-next.Post (k & b & tt) (matched ours k b)
+  pub data-next : (k b : ℕ) → Returns kinds-data-next.Pre kinds-data-next.Post (k & b & tt) (matched beginData k b)
+  pub text-next : (k b : ℕ) → Returns kinds-text-next.Pre kinds-text-next.Post (k & b & tt) (matched beginText k b)
+  pub grow : (n b : ℕ) → Returns kinds-grow.Pre kinds-grow.Post (n & b & tt) (grown n b)
+  pub grow-year : (year b : ℕ) → Returns kinds-grow-year.Pre kinds-grow-year.Post (year & b & tt) (grownYear year b)
+  pub years-begin : (k year : ℕ) → Returns kinds-years-begin.Pre kinds-years-begin.Post (k & year & tt) (yearsBegin k year)
+  pub capital : (b : ℕ) → Returns kinds-capital.Pre kinds-capital.Post (b & tt) (upper b)
+  pub month-on : (from k c : ℕ) → Returns kinds-month-on.Pre kinds-month-on.Post (from & k & c & tt) (monthOn from k c 12)
+  pub month-number : (year m : ℕ) → Returns kinds-month-number.Pre kinds-month-number.Post (year & m & tt) (monthNumber year m)
+  pub step : (have : Bool) (at : ℕ) (m : Mode) (b : ℕ) → Returns automaton-step.Pre automaton-step.Post (have & at & m & b & tt) (step have at m b)

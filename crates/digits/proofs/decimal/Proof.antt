@@ -33,19 +33,19 @@ returns-3 : tie.Need-returns-3 Inv-loop μ-loop
 returns-3 c =
     let l = c .before .before .before .before .before .before in
     let a = l .before .before .before .args in
-    turn-large (a .most) (l .loop .n) (l .loop .i) (a .word .now) (omega arith) (l .loop .inv .2) (holds (c .before .before .before .is-digit .ensures) (c .before .before .if2 .left)) (c .before .value .ensures .0) (omega arith)
+    turn-large (a .most) (l .loop .n) (l .loop .i) (a .word .now) (omega arith) (l .loop .inv .2) (holds (c .before .before .before .is-digit .ensures) (c .before .before .if2 .left)) (c .before .digit-value .ensures .0) (omega arith)
 
 returns-4 : tie.Need-returns-4 Inv-loop μ-loop
 returns-4 c =
     let l = c .before .before .before .before .before .before .before in
     let a = l .before .before .before .args in
-    turn-large (a .most) (l .loop .n) (l .loop .i) (a .word .now) (omega arith) (l .loop .inv .2) (holds (c .before .before .before .before .is-digit .ensures) (c .before .before .before .if2 .left)) (c .before .before .value .ensures .0) (omega arith)
+    turn-large (a .most) (l .loop .n) (l .loop .i) (a .word .now) (omega arith) (l .loop .inv .2) (holds (c .before .before .before .before .is-digit .ensures) (c .before .before .before .if2 .left)) (c .before .before .digit-value .ensures .0) (omega arith)
 
 loop-again : tie.Need-loop-again Inv-loop μ-loop
 loop-again c =
     let l = c .before .before .before .before .before .before .before in
     let a = l .before .before .before .args in
-    (omega arith, omega arith, turn-more (a .most) (l .loop .n) (l .loop .i) (a .word .now) (omega arith) (l .loop .inv .2) (holds (c .before .before .before .before .is-digit .ensures) (c .before .before .before .if2 .left)) (c .before .before .value .ensures .0))
+    (omega arith, omega arith, turn-more (a .most) (l .loop .n) (l .loop .i) (a .word .now) (omega arith) (l .loop .inv .2) (holds (c .before .before .before .before .is-digit .ensures) (c .before .before .before .if2 .left)) (c .before .before .digit-value .ensures .0))
 
 returns-5 : tie.Need-returns-5 Inv-loop μ-loop
 returns-5 c =

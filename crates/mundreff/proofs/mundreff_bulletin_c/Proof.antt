@@ -2,7 +2,7 @@
 -- Assumes nothing.
 use mathlib.Core.Path.{refl, ap, _∙_}
 use borrow.Author.Needs.{needs}
-use Rattle.mundreff.specs.Words.{tableWords}
+use Rattle.words.specs.Words.{tableWords}
 use Rattle.mundreff.proofs.mundreff_bulletin_c.Statement.{statement}
 use Rattle.mundreff.proofs.mundreff_bulletin_c.Tie as tie
 

@@ -1,10 +1,14 @@
 use mathlib.Core.Path.{refl, ap}
+use mathlib.Core.List.{List}
+use Prim.Native.Nat.{ℕ}
 use native.Mathlib.Omega.{arith}
 use borrow.Author.Needs.{needs}
 use Rattle.laws.proofs.Branches.{cond-yes, cond-rest, fails}
+use Rattle.digits.specs.Decimals.{numberAt}
+use Rattle.pictures.specs.declared.Date.the-variants.{OfYear}
 use Rattle.pictures.specs.declared.FieldsAnswer.the-variants.{Picture}
 use Rattle.pictures.specs.Reading.{ofYearPattern, readOfYear}
-use Rattle.pictures.proofs.Patterns.{digits-at, numbers-at, has-it, is-full, is-alike, is-short}
+use Rattle.pictures.proofs.Patterns.{digits-at, numbers-at, has-it, is-full, is-alike, is-short, fields-from}
 use Rattle.pictures.proofs.read_of_year.Statement.{statement}
 use Rattle.pictures.proofs.read_of_year.Tie as tie
 
@@ -15,10 +19,11 @@ returns c = cond-rest _ (fails (c .before .before .fills .ensures .has) (c .if1 
 returns-2 : tie.Need-returns-2
 unfolding readOfYear
 returns-2 c =
-    let e = c .before .before .before .before .before in
+    let day = c .before .before in
+    let e = day .before .before .before in
     let f = e .before .before .fills .ensures in
     let g = is-full ofYearPattern 17 f (e .if1 .left) in
-    cond-yes _ (has-it ofYearPattern 17 f (e .if1 .left)) (ap Picture (cc))
+    cond-yes _ (has-it ofYearPattern 17 f (e .if1 .left)) (ap Picture (fields-from 9 (λ (x : List ℕ). OfYear (numberAt x 5 3)) (c .fields-in .ensures) (day .before .before .digits-shown .ensures) (ap OfYear (day .three-at .ensures)) g))
 
 pub read-of-year-spec : {M : Type 1} → statement M
 read-of-year-spec =

@@ -36,6 +36,9 @@ module _ (c : tie.After-judge) where
   answered : {v : Judged} → c .judge .result ≡ v → onMonth Refused rest v ≡ instantIn table (s .args .scale) (s .args .r)
   answered e = then-judged (mostSecond (s .args .scale)) (s .args .r) Refused rest (told ∙ e)
 
+returns-2 : tie.Need-returns-2
+returns-2 c = answered (c .before .before .before) (c .before .why .given .1)
+
 pub instant-in-spec : {M : Type 1} → statement M
 instant-in-spec =
     tie.close
@@ -46,4 +49,4 @@ instant-in-spec =
     (λ c κs. let j = c .before .before .before in told j ∙ c .before .month .given .1)
     (λ c. search needs)
     (λ c. let j = c .before .before .before .before in c .instant-judged .ensures ∙ answered j (c .before .before .month .given .1))
-    (λ c. answered (c .before .before .before) (c .before .why .given .1)))
+    returns-2)

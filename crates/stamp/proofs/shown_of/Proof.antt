@@ -34,6 +34,11 @@ module _ (c : tie.After-moment-of) where
 small : (c : tie.After-m) → let m = c .m .given .0 .0 in (m .place .start ≤ 4000000) × ((m .place .second ≤ 3000000) × (m .micro ≤ 999999))
 small c = few (c .before .before) (c .m .given .1)
 
+returns : tie.Need-returns
+returns c =
+    let k = c .before .before .before .before .before in
+    answered (k .before .before) (k .m .given .1)
+
 pub shown-of-spec : {M : Type 1} → statement M
 shown-of-spec =
     tie.close
@@ -47,5 +52,5 @@ shown-of-spec =
     (λ c. search needs)
     (λ c. omega (arith, small (c .before .before .before .before .before)))
     (λ c. search needs)
-    (λ c. let k = c .before .before .before .before .before in answered (k .before .before) (k .m .given .1))
+    returns
     (λ c. answered (c .before .before .before) (c .before .why .given .1)))

@@ -23,6 +23,13 @@ module _ (c : tie.After-moment-of) where
   answered : {v : MomentAnswer} → c .moment-of .result ≡ v → stamped v ≡ stampOf table (s .args .instant) (s .args .scale)
   answered e = ap stamped (sym e ∙ read1 (λ (x : ℤ). momentOf table x (s .args .scale)) (s .fits .instant) (c .moment-of .ensures)) ∙ stamp-of-moment table (s .args .instant) (s .args .scale)
 
+returns : tie.Need-returns
+returns c =
+    let k = c .before .before in
+    let m = k .m .given .0 .0 in
+    ap (λ (l : Label). Stamped (record { scale = m .scale; reading = record { label = l; micro = m .micro } })) (c .label-of .ensures)
+    ∙ answered (k .before .before) (k .m .given .1)
+
 pub stamp-of-in-spec : {M : Type 1} → statement M
 stamp-of-in-spec =
     tie.close
@@ -31,7 +38,5 @@ stamp-of-in-spec =
     (λ c. search needs)
     (λ c κs. search needs)
     (λ c. search needs)
-    (λ c. let k = c .before .before in
-    let m = k .m .given .0 .0 in
-    ap (λ (l : Label). Stamped (record { scale = m .scale; reading = record { label = l; micro = m .micro } })) (c .label-of .ensures) ∙ answered (k .before .before) (k .m .given .1))
+    returns
     (λ c. answered (c .before .before .before) (c .before .why .given .1)))

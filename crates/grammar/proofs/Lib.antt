@@ -1,0 +1,15 @@
+pub mod Good
+pub mod Running
+pub mod Parts
+pub mod Lines
+pub mod Names
+pub mod Months
+pub mod Told
+pub mod Dates
+pub mod Sound
+pub mod Complete
+pub mod Standing
+pub mod Completion
+pub mod Faults
+pub mod GoingOn
+pub mod Placing

@@ -1,0 +1,26 @@
+-- The answer of `kernel::write_kernel` and what it leaves in the buffer, under the table that was made.
+-- Assumes nothing.
+use mathlib.Core.Path.{ap, _∙_}
+use Rattle.leap.specs.declared.Table.{Table}
+use borrow.Author.Needs.{needs}
+use Rattle.answer.specs.Buffers.{writtenResults}
+use Rattle.kernel.specs.Writing.{writeKernel, writeKernelAfter}
+use Rattle.mundreff.proofs.Results.{said}
+use Rattle.mundreff.proofs.mundreff_write_kernel.Statement.{statement}
+use Rattle.mundreff.proofs.mundreff_write_kernel.Tie as tie
+
+pub mundreff-write-kernel-spec : {M : Type 1} → statement M
+mundreff-write-kernel-spec =
+    tie.close
+    (tie.spec
+    (λ c κs. search needs)
+    (λ c κs. search needs)
+    (λ c κs. search needs)
+    (λ c. search needs)
+    (λ c.
+    let w = c .before .before .before .before in
+    let t = w .before .before in
+    let buffer = t .before .before .args .out .now in (
+      said writtenResults (c .give-length .ensures) (w .write-kernel .ensures .0 ∙ ap (λ (u : Table). writeKernel u buffer) (t .table-of .ensures)),
+      w .write-kernel .ensures .1 ∙ ap (λ (u : Table). writeKernelAfter u buffer) (t .table-of .ensures),
+    )))
