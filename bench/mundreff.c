@@ -10,7 +10,7 @@ static int64_t instant;
 static char text[MUNDREFF_TEXT_ROOM];
 static uint8_t bytes[MUNDREFF_KERNEL_ROOM], block[MUNDREFF_BLOCK_ROOM], kernel[8192];
 static size_t kernel_size;
-static uint64_t byte_place;
+static uint64_t kernel_place;
 static double midnight, fraction;
 
 static uint32_t read_text(int i) { return mundreff_read_text(&table, MUNDREFF_UTC, texts[i], 26, &instant, &stamp); }
@@ -23,7 +23,7 @@ static uint32_t start(int i) { (void)i; return mundreff_start(&table, &label); }
 static uint32_t tick(int i) { return mundreff_tick(&table, &labels[i], &next); }
 static uint32_t read_block(int i) { (void)i; return mundreff_read_block(block, block_size, &place, &read_table); }
 static uint32_t write_block(int i) { (void)i; return mundreff_write_block(&table, bytes, sizeof bytes, &length); }
-static uint32_t read_kernel(int i) { (void)i; return mundreff_read_kernel(kernel, kernel_size, &byte_place, &read_table); }
+static uint32_t read_kernel(int i) { (void)i; return mundreff_read_kernel(kernel, kernel_size, &kernel_place, &read_table); }
 static uint32_t write_kernel(int i) { (void)i; return mundreff_write_kernel(&table, bytes, sizeof bytes, &length); }
 
 static int instant_right(int i) { return instant == instants[i]; }
@@ -38,10 +38,10 @@ static int table_right(int i) { (void)i; return !memcmp(&read_table, &table, siz
 static int block_right(int i) { (void)i; return length == 29 && !memcmp(bytes, block, 29); }
 
 /* the kernel written has the length of Bulletin C's and reads as the table */
-static int kernel_right(int i) { return length == 1032 && !mundreff_read_kernel(bytes, length, &byte_place, &read_table) && table_right(i); }
+static int kernel_right(int i) { return length == 1032 && !mundreff_read_kernel(bytes, length, &kernel_place, &read_table) && table_right(i); }
 
 /* a call's row, and where it takes or gives many bytes that of a byte */
-#define BYTES_ROW(name, call, right, bytes)                                   \
+#define BYTES_ROW(name, call, right, size)                                    \
     static void all_##call(void) { EACH sink = call(i); }                     \
     static void row_##call(void)                                              \
     {                                                                         \
@@ -50,7 +50,7 @@ static int kernel_right(int i) { return length == 1032 && !mundreff_read_kernel(
         if (wrong)                                                            \
             printf("Mundreff\t%s\tWRONG on %d inputs\n", name, wrong);        \
         else                                                                  \
-            measure_bytes("Mundreff", name, all_##call, bytes);               \
+            measure_bytes("Mundreff", name, all_##call, size);                \
     }
 #define ROW(name, call, right) BYTES_ROW(name, call, right, 1)
 ROW("text to instant", read_text, read_right)

@@ -68,6 +68,35 @@ static void kernels(void)
     expect("write_kernel of it", mundreff_write_kernel(&read, kernel, sizeof kernel, &length) == MUNDREFF_TABLE && length == 0);
 }
 
+static uint8_t megabyte[1 << 20];
+
+/* Bad files: every cut of a kernel, every byte of it changed, a megabyte. Each has a number, a place and, but for a kernel, no table. */
+static void bad_kernels(void)
+{
+    const size_t size = sizeof small_kernel - 1;
+    uint8_t kernel[sizeof small_kernel];
+    uint64_t place = 9;
+    mundreff_table read;
+    int cuts = 1, changes = 1;
+    for (size_t cut = 0; cut < size; cut++) {
+        uint32_t no = mundreff_read_kernel((const uint8_t *)small_kernel, cut, &place, &read);
+        cuts &= no == MUNDREFF_OK ? place == 0 && read.count == 2 : no == MUNDREFF_KERNEL && place == cut && SAME(read, no_table);
+    }
+    expect("a kernel that is cut off", cuts);
+    for (size_t k = 0; k < 256 * size; k++) {
+        memcpy(kernel, small_kernel, size);
+        kernel[k / 256] = (uint8_t)(k % 256);
+        uint32_t no = mundreff_read_kernel(kernel, size, &place, &read);
+        changes &= no == MUNDREFF_OK ? place == 0 && read.count > 0 : SAME(read, no_table) && (no == MUNDREFF_TABLE ? place == 0 : no == MUNDREFF_KERNEL && place <= size);
+    }
+    expect("a kernel with a byte changed", changes);
+    memset(megabyte, ' ', sizeof megabyte);
+    memcpy(megabyte, small_kernel, size);
+    expect("a megabyte", mundreff_read_kernel(megabyte, sizeof megabyte, &place, &read) == MUNDREFF_KERNEL && place == 65536 && SAME(read, no_table));
+    megabyte[31] = 'x';
+    expect("a megabyte with a fault", mundreff_read_kernel(megabyte, sizeof megabyte, &place, &read) == MUNDREFF_KERNEL && place == 31 && SAME(read, no_table));
+}
+
 /* offsets below zero: 12 steps down from 10 */
 static void below_zero(void)
 {
@@ -192,6 +221,7 @@ int main(void)
     expect("sizes", sizeof(mundreff_table) == 516 && sizeof(mundreff_stamp) == 32 && sizeof(mundreff_label) == 24);
     tables();
     kernels();
+    bad_kernels();
     below_zero();
     stamps();
     texts();
