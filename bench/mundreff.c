@@ -12,15 +12,16 @@ static uint8_t bytes[MUNDREFF_KERNEL_ROOM], block[MUNDREFF_BLOCK_ROOM], kernel[8
 static size_t kernel_size;
 static uint64_t kernel_place;
 static double midnight, fraction;
+static uint32_t marks;
 
-static uint32_t read_text(int i) { return mundreff_read_text(&table, MUNDREFF_UTC, texts[i], 26, &instant, &stamp); }
-static uint32_t write_text(int i) { return mundreff_write_text(&table, instants[i], MUNDREFF_MONTH_NUMBER, MUNDREFF_UTC, 6, text, sizeof text, &length); }
-static uint32_t instant_of(int i) { return mundreff_instant_of(&table, &stamps[i], &instant); }
-static uint32_t stamp_of(int i) { return mundreff_stamp_of(&table, instants[i], MUNDREFF_UTC, &stamp); }
-static uint32_t write_julian(int i) { return mundreff_write_julian(&table, instants[i], MUNDREFF_UTC, &midnight, &fraction); }
-static uint32_t read_julian(int i) { return mundreff_read_julian(&table, MUNDREFF_UTC, midnights[i], fractions[i], &instant); }
-static uint32_t start(int i) { (void)i; return mundreff_start(&table, &label); }
-static uint32_t tick(int i) { return mundreff_tick(&table, &labels[i], &next); }
+static uint32_t read_text(int i) { return mundreff_read_text(&table, MUNDREFF_UTC, texts[i], 26, &instant, &stamp, &marks); }
+static uint32_t write_text(int i) { return mundreff_write_text(&table, instants[i], MUNDREFF_MONTH_NUMBER, MUNDREFF_UTC, 6, text, sizeof text, &length, &marks); }
+static uint32_t instant_of(int i) { return mundreff_instant_of(&table, &stamps[i], &instant, &marks); }
+static uint32_t stamp_of(int i) { return mundreff_stamp_of(&table, instants[i], MUNDREFF_UTC, &stamp, &marks); }
+static uint32_t write_julian(int i) { return mundreff_write_julian(&table, instants[i], MUNDREFF_UTC, &midnight, &fraction, &marks); }
+static uint32_t read_julian(int i) { return mundreff_read_julian(&table, MUNDREFF_UTC, midnights[i], fractions[i], &instant, &marks); }
+static uint32_t start(int i) { (void)i; return mundreff_start(&table, &label, &marks); }
+static uint32_t tick(int i) { return mundreff_tick(&table, &labels[i], &next, &marks); }
 static uint32_t read_block(int i) { (void)i; return mundreff_read_block(block, block_size, &place, &read_table); }
 static uint32_t write_block(int i) { (void)i; return mundreff_write_block(&table, bytes, sizeof bytes, &length); }
 static uint32_t read_kernel(int i) { (void)i; return mundreff_read_kernel(kernel, kernel_size, &kernel_place, &read_table); }
@@ -40,13 +41,13 @@ static int block_right(int i) { (void)i; return length == 29 && !memcmp(bytes, b
 /* the kernel written has the length of Bulletin C's and reads as the table */
 static int kernel_right(int i) { return length == 1032 && !mundreff_read_kernel(bytes, length, &kernel_place, &read_table) && table_right(i); }
 
-/* a call's row, and where it takes or gives many bytes that of a byte */
+/* a call's row, with no marks since no month is given, and where it takes or gives many bytes that of a byte */
 #define BYTES_ROW(name, call, right, size)                                    \
     static void all_##call(void) { EACH sink = call(i); }                     \
     static void row_##call(void)                                              \
     {                                                                         \
         int wrong = 0;                                                        \
-        EACH wrong += call(i) != 0 || !right(i);                              \
+        EACH wrong += call(i) != 0 || marks || !right(i);                     \
         if (wrong)                                                            \
             printf("Mundreff\t%s\tWRONG on %d inputs\n", name, wrong);        \
         else                                                                  \

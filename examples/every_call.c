@@ -1,5 +1,6 @@
 /* Each call of the header, once with an answer and once refused (mundreff_bulletin_c is never refused); a tick in place, buffers of no bytes,
-   the lengths that are always enough and the names of the refusals. It is C and C++. It says where an answer is another than the header's, and ends with status 1. */
+   the month that a table is vouched for with the marks of each call, the lengths that are always enough and the names of the refusals. It is C
+   and C++. It says where an answer is another than the header's, and ends with status 1. */
 #include <stdio.h>
 #include <string.h>
 #include "mundreff.h"
@@ -25,6 +26,14 @@ static mundreff_label no_label;
 
 static mundreff_table table;
 
+/* where a call stores its marks; another number stands there before it */
+static uint32_t marks;
+static uint32_t *marked(void)
+{
+    USED(marks);
+    return &marks;
+}
+
 /* 2016-12-31T23:59:60 UTC */
 static const int64_t added = 536500836000000;
 static const mundreff_stamp added_stamp = {MUNDREFF_UTC, 2016, 12, 31, 23, 59, 60, 0};
@@ -36,7 +45,7 @@ static void tables(void)
     size_t length = 9, place = 9;
     mundreff_table read;
     USED(table);
-    expect("bulletin_c", mundreff_bulletin_c(&table) == MUNDREFF_OK && table.count == 28 && table.months[27] == 540 && table.offsets[27] == 37 && table.months[28] == 0 && table.offsets[63] == 0);
+    expect("bulletin_c", mundreff_bulletin_c(&table) == MUNDREFF_OK && table.count == 28 && table.months[27] == 540 && table.offsets[27] == 37 && table.months[28] == 0 && table.offsets[63] == 0 && table.vouched == 0);
     USED(block);
     USED(before);
     expect("write_block refused", mundreff_write_block(&table, block, 28, &length) == MUNDREFF_ROOM && length == 0 && SAME(block, before));
@@ -57,7 +66,7 @@ static void kernels(void)
     uint64_t place = 9;
     mundreff_table read;
     USED(read);
-    expect("read_kernel", mundreff_read_kernel(small, size, &place, &read) == MUNDREFF_OK && place == 0 && read.count == 2 && read.months[1] == 6 && read.offsets[1] == 11 && read.months[2] == 0 && read.offsets[63] == 0);
+    expect("read_kernel", mundreff_read_kernel(small, size, &place, &read) == MUNDREFF_OK && place == 0 && read.count == 2 && read.months[1] == 6 && read.offsets[1] == 11 && read.months[2] == 0 && read.offsets[63] == 0 && read.vouched == 0);
     USED(kernel);
     USED(before);
     expect("write_kernel refused", mundreff_write_kernel(&read, kernel, size - 1, &length) == MUNDREFF_ROOM && length == 0 && SAME(kernel, before));
@@ -117,11 +126,11 @@ static void stamps(void)
     mundreff_stamp on_tai = added_stamp, stamp;
     int64_t instant = 9;
     on_tai.scale = MUNDREFF_TAI;
-    expect("instant_of", mundreff_instant_of(&table, &added_stamp, &instant) == MUNDREFF_OK && instant == added);
-    expect("instant_of refused", mundreff_instant_of(&table, &on_tai, &instant) == MUNDREFF_CLOCK && instant == 0);
+    expect("instant_of", mundreff_instant_of(&table, &added_stamp, &instant, marked()) == MUNDREFF_OK && instant == added && marks == 0);
+    expect("instant_of refused", mundreff_instant_of(&table, &on_tai, &instant, marked()) == MUNDREFF_CLOCK && instant == 0 && marks == 0);
     USED(stamp);
-    expect("stamp_of", mundreff_stamp_of(&table, added, MUNDREFF_UTC, &stamp) == MUNDREFF_OK && SAME(stamp, added_stamp));
-    expect("stamp_of refused", mundreff_stamp_of(&table, added, 4, &stamp) == MUNDREFF_ASK && SAME(stamp, no_stamp));
+    expect("stamp_of", mundreff_stamp_of(&table, added, MUNDREFF_UTC, &stamp, marked()) == MUNDREFF_OK && SAME(stamp, added_stamp) && marks == 0);
+    expect("stamp_of refused", mundreff_stamp_of(&table, added, 4, &stamp, marked()) == MUNDREFF_ASK && SAME(stamp, no_stamp) && marks == 0);
 }
 
 static void texts(void)
@@ -132,22 +141,22 @@ static void texts(void)
     size_t length = 9;
     int64_t instant = 9;
     USED(stamp);
-    expect("read_text", mundreff_read_text(&table, MUNDREFF_UTC, text, 17, &instant, &stamp) == MUNDREFF_OK && instant == added && SAME(stamp, added_stamp));
-    expect("read_text refused", mundreff_read_text(&table, MUNDREFF_UTC, text, 16, &instant, &stamp) == MUNDREFF_SHAPE && instant == 0 && SAME(stamp, no_stamp));
+    expect("read_text", mundreff_read_text(&table, MUNDREFF_UTC, text, 17, &instant, &stamp, marked()) == MUNDREFF_OK && instant == added && SAME(stamp, added_stamp) && marks == 0);
+    expect("read_text refused", mundreff_read_text(&table, MUNDREFF_UTC, text, 16, &instant, &stamp, marked()) == MUNDREFF_SHAPE && instant == 0 && SAME(stamp, no_stamp) && marks == 0);
     USED(out);
     USED(before);
-    expect("write_text refused", mundreff_write_text(&table, added, MUNDREFF_DAY_OF_YEAR, MUNDREFF_UTC, 0, out, 16, &length) == MUNDREFF_ROOM && length == 0 && SAME(out, before));
-    expect("write_text", mundreff_write_text(&table, added, MUNDREFF_DAY_OF_YEAR, MUNDREFF_UTC, 0, out, sizeof out, &length) == MUNDREFF_OK && length == 17 && memcmp(out, text, 17) == 0 && memcmp(out + 17, before, 3) == 0);
+    expect("write_text refused", mundreff_write_text(&table, added, MUNDREFF_DAY_OF_YEAR, MUNDREFF_UTC, 0, out, 16, &length, marked()) == MUNDREFF_ROOM && length == 0 && SAME(out, before) && marks == 0);
+    expect("write_text", mundreff_write_text(&table, added, MUNDREFF_DAY_OF_YEAR, MUNDREFF_UTC, 0, out, sizeof out, &length, marked()) == MUNDREFF_OK && length == 17 && memcmp(out, text, 17) == 0 && memcmp(out + 17, before, 3) == 0 && marks == 0);
 }
 
 static void pairs(void)
 {
     double midnight = 9, fraction = 9;
     int64_t instant = 9;
-    expect("write_julian", mundreff_write_julian(&table, 0, MUNDREFF_TAI, &midnight, &fraction) == MUNDREFF_OK && midnight == 2451544.5 && fraction == 0.5);
-    expect("read_julian", mundreff_read_julian(&table, MUNDREFF_TAI, 2451544.5, 0.75, &instant) == MUNDREFF_OK && instant == 21600000000);
-    expect("read_julian refused", mundreff_read_julian(&table, MUNDREFF_TAI, 2451545.0, 0.75, &instant) == MUNDREFF_NUMBER && instant == 0);
-    expect("write_julian refused", mundreff_write_julian(&table, INT64_MIN, MUNDREFF_TAI, &midnight, &fraction) == MUNDREFF_RANGE && midnight == 0 && fraction == 0);
+    expect("write_julian", mundreff_write_julian(&table, 0, MUNDREFF_TAI, &midnight, &fraction, marked()) == MUNDREFF_OK && midnight == 2451544.5 && fraction == 0.5 && marks == 0);
+    expect("read_julian", mundreff_read_julian(&table, MUNDREFF_TAI, 2451544.5, 0.75, &instant, marked()) == MUNDREFF_OK && instant == 21600000000 && marks == 0);
+    expect("read_julian refused", mundreff_read_julian(&table, MUNDREFF_TAI, 2451545.0, 0.75, &instant, marked()) == MUNDREFF_NUMBER && instant == 0 && marks == 0);
+    expect("write_julian refused", mundreff_write_julian(&table, INT64_MIN, MUNDREFF_TAI, &midnight, &fraction, marked()) == MUNDREFF_RANGE && midnight == 0 && fraction == 0 && marks == 0);
 }
 
 static void ticks(void)
@@ -157,15 +166,151 @@ static void ticks(void)
     mundreff_label label, kept = eve;
     too_many.count = 65;
     USED(label);
-    expect("start", mundreff_start(&table, &label) == MUNDREFF_OK && SAME(label, first));
-    expect("start refused", mundreff_start(&too_many, &label) == MUNDREFF_TABLE && SAME(label, no_label));
-    expect("tick", mundreff_tick(&table, &kept, &label) == MUNDREFF_OK && SAME(label, added_label) && SAME(kept, eve));
-    expect("tick refused", mundreff_tick(&table, &none, &label) == MUNDREFF_NOSECOND && SAME(label, no_label));
+    expect("start", mundreff_start(&table, &label, marked()) == MUNDREFF_OK && SAME(label, first) && marks == 0);
+    expect("start refused", mundreff_start(&too_many, &label, marked()) == MUNDREFF_TABLE && SAME(label, no_label) && marks == 0);
+    expect("tick", mundreff_tick(&table, &kept, &label, marked()) == MUNDREFF_OK && SAME(label, added_label) && SAME(kept, eve) && marks == 0);
+    expect("tick refused", mundreff_tick(&table, &none, &label, marked()) == MUNDREFF_NOSECOND && SAME(label, no_label) && marks == 0);
     label = eve;
-    expect("tick over its own label", mundreff_tick(&table, &label, &label) == MUNDREFF_OK && SAME(label, added_label));
-    expect("tick_in_place", mundreff_tick_in_place(&table, &label) == MUNDREFF_OK && label.year == 2017 && label.month == 1 && label.day == 1 && label.hour == 0 && label.minute == 0 && label.second == 0);
+    expect("tick over its own label", mundreff_tick(&table, &label, &label, marked()) == MUNDREFF_OK && SAME(label, added_label) && marks == 0);
+    expect("tick_in_place", mundreff_tick_in_place(&table, &label, marked()) == MUNDREFF_OK && label.year == 2017 && label.month == 1 && label.day == 1 && label.hour == 0 && label.minute == 0 && label.second == 0 && marks == 0);
     label = none;
-    expect("tick_in_place refused", mundreff_tick_in_place(&table, &label) == MUNDREFF_NOSECOND && SAME(label, no_label));
+    expect("tick_in_place refused", mundreff_tick_in_place(&table, &label, marked()) == MUNDREFF_NOSECOND && SAME(label, no_label) && marks == 0);
+}
+
+/* A moment in each of its forms on a scale, and its marks under the table of Bulletin C that is vouched for up to January 2017. */
+typedef struct {
+    mundreff_stamp stamp;
+    int64_t instant;
+    const char *text;
+    double midnight, fraction;
+    uint32_t marks;
+} moment;
+
+enum { JANUARY_2017 = MUNDREFF_VOUCHED(2017, 1) };
+static const moment moments[] = {
+    {{MUNDREFF_UTC, 2016, 12, 30, 12, 0, 0, 0}, 536371236000000, "2016-12-30T12:00:00.000000", 2457752.5, 0.5, 0},
+    {{MUNDREFF_UTC, 2017, 1, 31, 23, 59, 59, 999999}, 539179236999999, "2017-01-31T23:59:59.999999", 2457784.5, 86399999999.0 / 86400000000.0, 0},
+    {{MUNDREFF_UTC, 2017, 2, 1, 0, 0, 0, 0}, 539179237000000, "2017-02-01T00:00:00.000000", 2457785.5, 0, MUNDREFF_BEYOND},
+    {{MUNDREFF_UTC, 9999, 12, 31, 12, 0, 0, 0}, 252455529637000000, "9999-12-31T12:00:00.000000", 5373483.5, 0.5, MUNDREFF_BEYOND},
+    {{MUNDREFF_TAI, 2017, 2, 1, 0, 0, 37, 0}, 539179237000000, "2017-02-01T00:00:37.000000", 2457785.5, 37 / 86400.0, 0},
+    {{MUNDREFF_GPS, 9999, 12, 31, 12, 0, 0, 0}, 252455529619000000, "9999-12-31T12:00:00.000000", 5373483.5, 0.5, 0},
+};
+
+/* each of the six calls that take a scale gives the moment in its form, with these marks */
+static int six_give(const mundreff_table *t, const moment *at, uint32_t expected)
+{
+    const uint32_t scale = at->stamp.scale;
+    mundreff_stamp stamp;
+    char out[26];
+    size_t length;
+    int64_t instant;
+    double midnight, fraction;
+    int all = mundreff_instant_of(t, &at->stamp, &instant, marked()) == MUNDREFF_OK && instant == at->instant && marks == expected;
+    all &= mundreff_stamp_of(t, at->instant, scale, &stamp, marked()) == MUNDREFF_OK && SAME(stamp, at->stamp) && marks == expected;
+    all &= mundreff_read_text(t, scale, at->text, 26, &instant, &stamp, marked()) == MUNDREFF_OK && instant == at->instant && SAME(stamp, at->stamp) && marks == expected;
+    all &= mundreff_write_text(t, at->instant, MUNDREFF_MONTH_NUMBER, scale, 6, out, sizeof out, &length, marked()) == MUNDREFF_OK && length == 26 && memcmp(out, at->text, 26) == 0 && marks == expected;
+    all &= mundreff_write_julian(t, at->instant, scale, &midnight, &fraction, marked()) == MUNDREFF_OK && midnight == at->midnight && fraction == at->fraction && marks == expected;
+    all &= mundreff_read_julian(t, scale, at->midnight, at->fraction, &instant, marked()) == MUNDREFF_OK && instant == at->instant && marks == expected;
+    return all;
+}
+
+/* each of them refuses the moment with this number on a scale, and marks nothing */
+static int six_refuse(const mundreff_table *t, const moment *at, uint32_t scale, uint32_t no)
+{
+    mundreff_stamp asked = at->stamp, stamp;
+    char out[26];
+    size_t length = 9;
+    int64_t instant = 9;
+    double midnight = 9, fraction = 9;
+    asked.scale = scale;
+    USED(stamp);
+    int all = mundreff_instant_of(t, &asked, &instant, marked()) == no && instant == 0 && marks == 0;
+    all &= mundreff_stamp_of(t, at->instant, scale, &stamp, marked()) == no && SAME(stamp, no_stamp) && marks == 0;
+    all &= mundreff_read_text(t, scale, at->text, 26, &instant, &stamp, marked()) == no && instant == 0 && SAME(stamp, no_stamp) && marks == 0;
+    all &= mundreff_write_text(t, at->instant, MUNDREFF_MONTH_NUMBER, scale, 6, out, sizeof out, &length, marked()) == no && length == 0 && marks == 0;
+    all &= mundreff_write_julian(t, at->instant, scale, &midnight, &fraction, marked()) == no && midnight == 0 && fraction == 0 && marks == 0;
+    all &= mundreff_read_julian(t, scale, at->midnight, at->fraction, &instant, marked()) == no && instant == 0 && marks == 0;
+    return all;
+}
+
+/* start, tick and the writers of tables refuse the table; the buffer keeps its bytes */
+static int others_refuse(const mundreff_table *t)
+{
+    const mundreff_label eve = {2016, 12, 31, 23, 59, 59};
+    mundreff_label label;
+    uint8_t out[MUNDREFF_KERNEL_ROOM], before[MUNDREFF_KERNEL_ROOM];
+    size_t length = 9;
+    USED(label);
+    USED(out);
+    USED(before);
+    int all = mundreff_start(t, &label, marked()) == MUNDREFF_TABLE && SAME(label, no_label) && marks == 0;
+    all &= mundreff_tick(t, &eve, &label, marked()) == MUNDREFF_TABLE && SAME(label, no_label) && marks == 0;
+    all &= mundreff_write_block(t, out, sizeof out, &length) == MUNDREFF_TABLE && length == 0 && SAME(out, before);
+    all &= mundreff_write_kernel(t, out, sizeof out, &length) == MUNDREFF_TABLE && length == 0 && SAME(out, before);
+    return all;
+}
+
+/* A month is judged with the table, after what was asked: December 2016 lies before the last entry, and 96,336 past the end. */
+static void months_given(void)
+{
+    const uint32_t good[] = {0, JANUARY_2017, 96336}, bad[] = {1, JANUARY_2017 - 1, 96337, 0xffffffff};
+    mundreff_table given = table;
+    mundreff_label label;
+    expect("MUNDREFF_VOUCHED", MUNDREFF_VOUCHED(1972, 1) == 1 && MUNDREFF_VOUCHED(2017, 1) == 541 && MUNDREFF_VOUCHED(2026, 12) == 660 && MUNDREFF_VOUCHED(9999, 12) == 96336);
+    for (int k = 0; k < 3; k++) {
+        given.vouched = good[k];
+        expect("a month that can be given", mundreff_start(&given, &label, marked()) == MUNDREFF_OK && label.year == 1972 && marks == 0);
+    }
+    for (int k = 0; k < 4; k++) {
+        given.vouched = bad[k];
+        expect("a month that cannot be given", six_refuse(&given, moments, MUNDREFF_UTC, MUNDREFF_TABLE) && six_refuse(&given, moments, MUNDREFF_TAI, MUNDREFF_TABLE) && others_refuse(&given));
+        expect("an unknown scale comes before it", six_refuse(&given, moments, 4, MUNDREFF_ASK));
+    }
+}
+
+static void marks_given(void)
+{
+    const int64_t february = moments[2].instant;
+    const mundreff_label first = {2017, 2, 1, 0, 0, 0}, end = {9999, 12, 31, 23, 59, 59};
+    mundreff_label label = {2017, 1, 31, 23, 59, 58}, next;
+    mundreff_table given = table;
+    mundreff_stamp stamp;
+    char out[18];
+    size_t length = 9;
+    int64_t instant = 9;
+    given.vouched = JANUARY_2017;
+    USED(stamp);
+    for (size_t k = 0; k < sizeof moments / sizeof *moments; k++) {
+        expect("marks where a month is given", six_give(&given, &moments[k], moments[k].marks));
+        expect("and none where it is not", six_give(&table, &moments[k], 0));
+        expect("and none where it is refused", six_refuse(&given, &moments[k], 4, MUNDREFF_ASK));
+    }
+    expect("read_julian, rounded into February", mundreff_read_julian(&given, MUNDREFF_UTC, 2457784.5, 0.9999999999999999, &instant, marked()) == MUNDREFF_OK && instant == february && marks == MUNDREFF_BEYOND);
+    expect("read_text refused beyond", mundreff_read_text(&given, MUNDREFF_UTC, "2017-02-01T23:59:60", 19, &instant, &stamp, marked()) == MUNDREFF_NOSECOND && instant == 0 && SAME(stamp, no_stamp) && marks == 0);
+    expect("write_text refused beyond", mundreff_write_text(&given, february, MUNDREFF_MONTH_NUMBER, MUNDREFF_UTC, 0, out, sizeof out, &length, marked()) == MUNDREFF_ROOM && length == 0 && marks == 0);
+    expect("tick in January", mundreff_tick_in_place(&given, &label, marked()) == MUNDREFF_OK && label.second == 59 && marks == 0);
+    expect("tick into February", mundreff_tick(&given, &label, &next, marked()) == MUNDREFF_OK && SAME(next, first) && marks == MUNDREFF_BEYOND);
+    expect("and without a month", mundreff_tick(&table, &label, &next, marked()) == MUNDREFF_OK && SAME(next, first) && marks == 0);
+    expect("tick_in_place into February", mundreff_tick_in_place(&given, &label, marked()) == MUNDREFF_OK && SAME(label, first) && marks == MUNDREFF_BEYOND);
+    expect("tick refused beyond", mundreff_tick(&given, &end, &next, marked()) == MUNDREFF_RANGE && SAME(next, no_label) && marks == 0);
+}
+
+/* the writers of tables drop the month */
+static void months_dropped(void)
+{
+    uint8_t with[MUNDREFF_KERNEL_ROOM], without[MUNDREFF_KERNEL_ROOM];
+    size_t length = 9, same = 9, place = 9;
+    uint64_t at = 9;
+    mundreff_table given = table, read;
+    given.vouched = JANUARY_2017;
+    USED(with);
+    USED(without);
+    expect("a block has no month", mundreff_write_block(&given, with, sizeof with, &length) == MUNDREFF_OK && mundreff_write_block(&table, without, sizeof without, &same) == MUNDREFF_OK && length == same && SAME(with, without));
+    USED(read);
+    expect("nor the table read from it", mundreff_read_block(with, length, &place, &read) == MUNDREFF_OK && SAME(read, table) && read.vouched == 0);
+    expect("a kernel has no month", mundreff_write_kernel(&given, with, sizeof with, &length) == MUNDREFF_OK && mundreff_write_kernel(&table, without, sizeof without, &same) == MUNDREFF_OK && length == same && SAME(with, without));
+    USED(read);
+    expect("nor has its table", mundreff_read_kernel(with, length, &at, &read) == MUNDREFF_OK && SAME(read, table) && read.vouched == 0);
 }
 
 static void no_bytes(void)
@@ -179,8 +324,8 @@ static void no_bytes(void)
     expect("no room for a kernel", mundreff_write_kernel(&table, NULL, 0, &length) == MUNDREFF_ROOM && length == 0);
     expect("no block", mundreff_read_block(NULL, 0, &place, &read) == MUNDREFF_CUT && place == 0 && SAME(read, no_table));
     expect("no room for a block", mundreff_write_block(&table, NULL, 0, &length) == MUNDREFF_ROOM && length == 0);
-    expect("no text", mundreff_read_text(&table, MUNDREFF_UTC, NULL, 0, &instant, &stamp) == MUNDREFF_SHAPE && instant == 0 && SAME(stamp, no_stamp));
-    expect("no room for a text", mundreff_write_text(&table, added, MUNDREFF_MONTH_NUMBER, MUNDREFF_UTC, 6, NULL, 0, &length) == MUNDREFF_ROOM && length == 0);
+    expect("no text", mundreff_read_text(&table, MUNDREFF_UTC, NULL, 0, &instant, &stamp, marked()) == MUNDREFF_SHAPE && instant == 0 && SAME(stamp, no_stamp) && marks == 0);
+    expect("no room for a text", mundreff_write_text(&table, added, MUNDREFF_MONTH_NUMBER, MUNDREFF_UTC, 6, NULL, 0, &length, marked()) == MUNDREFF_ROOM && length == 0 && marks == 0);
 }
 
 /* 52 gaps of 64 months, whose numbers take two bytes, and 11 of 8,192, whose numbers take three: the longest block there is. Offsets that go
@@ -204,7 +349,7 @@ static void lengths(void)
         longest.offsets[k] = 10 - k;
     expect("the longest kernel", mundreff_write_kernel(&longest, kernel, sizeof kernel, &length) == MUNDREFF_OK && length == MUNDREFF_KERNEL_ROOM);
     expect("it is no shorter either", mundreff_write_kernel(&longest, kernel, sizeof kernel - 1, &length) == MUNDREFF_ROOM);
-    expect("the longest text", mundreff_write_text(&table, added, MUNDREFF_MONTH_NAME, MUNDREFF_UTC, 6, text, sizeof text, &length) == MUNDREFF_OK && length == MUNDREFF_TEXT_ROOM && memcmp(text, "2016 DEC 31 23:59:60.000000", 27) == 0);
+    expect("the longest text", mundreff_write_text(&table, added, MUNDREFF_MONTH_NAME, MUNDREFF_UTC, 6, text, sizeof text, &length, marked()) == MUNDREFF_OK && length == MUNDREFF_TEXT_ROOM && memcmp(text, "2016 DEC 31 23:59:60.000000", 27) == 0);
 }
 
 static int is_named(uint32_t number, const char *name) { return strcmp(mundreff_refusal_name(number), name) == 0; }
@@ -218,7 +363,7 @@ static void names(void)
 
 int main(void)
 {
-    expect("sizes", sizeof(mundreff_table) == 516 && sizeof(mundreff_stamp) == 32 && sizeof(mundreff_label) == 24);
+    expect("sizes", sizeof(mundreff_table) == 520 && offsetof(mundreff_table, vouched) == 516 && sizeof(mundreff_stamp) == 32 && sizeof(mundreff_label) == 24);
     tables();
     kernels();
     bad_kernels();
@@ -227,6 +372,9 @@ int main(void)
     texts();
     pairs();
     ticks();
+    months_given();
+    marks_given();
+    months_dropped();
     no_bytes();
     lengths();
     names();

@@ -5,10 +5,10 @@
    all zero (a reader of tables also gives the place). A lent byte buffer is written on success only, and past the reported length never.
    Where several things are wrong, the first in the call's list decides.
 
-   Pointers. A buffer of no bytes may be NULL (with size or room 0); no other pointer may. An output lies apart from the other outputs, from
-   the table and from every input, whole or in part, with one exception: the two labels of mundreff_tick may be one. So a block or a kernel
-   that lies in a mundreff_table is not read into that table, and a table's own bytes are not written over while it is read. Inputs may overlap.
-   What overlaps otherwise is not answered for. */
+   Pointers. A buffer of no bytes may be NULL (with size or room 0); no other pointer may. An output, marks too, lies apart from the other
+   outputs, from the table and from every input, whole or in part, with one exception: the two labels of mundreff_tick may be one. So a block or
+   a kernel that lies in a mundreff_table is not read into that table, and a table's own bytes are not written over while it is read. Inputs may
+   overlap. What overlaps otherwise is not answered for. */
 #ifndef MUNDREFF_H
 #define MUNDREFF_H
 
@@ -32,7 +32,7 @@ enum {
     MUNDREFF_ASK = 8,      /* unknown scale, picture or digit number */
     MUNDREFF_CUT = 9,      /* the block ends before a number of it does */
     MUNDREFF_GROUPS = 10,  /* a number of the block is too long, or not in its shortest form */
-    MUNDREFF_TABLE = 11,   /* the table, given or read, is not as described; or the block's count, gap or month is out of range */
+    MUNDREFF_TABLE = 11,   /* the table, given or read, is not as described (its vouched month too), or the block's count, gap or month is out of range */
     MUNDREFF_TAIL = 12,    /* a byte after the block's last entry */
     MUNDREFF_NUMBER = 13,  /* the midnight is not a whole number and a half, or the fraction is not at least 0 and below 1 */
     MUNDREFF_KERNEL = 14   /* the file is no leap-seconds kernel, or is longer than 65,536 bytes */
@@ -56,12 +56,32 @@ enum { MUNDREFF_TEXT_ROOM = 27, MUNDREFF_BLOCK_ROOM = 138, MUNDREFF_KERNEL_ROOM 
 
 /* 1 to 64 entries, each the month (January 1972 is 0) from whose first day TAI-UTC is that offset in seconds. The first is month 0 with 10,
    months rise and end at 96,335 (December 9999) at the latest, offsets go up or down by 1, unused places are zero. Every call checks it.
-   The last offset holds to the end of 9999, announced or not. */
+   The last offset holds to the end of 9999, announced or not. A month's number is 12 * (year - 1972) + month - 1.
+   `vouched` says how long the table is good for: the last month that it is vouched for, plus one, or 0 where none is given. Which month, is for
+   whoever hands out the table to say; MUNDREFF_VOUCHED, below, makes the number. A month that is given lies from the last entry's to 96,335, else
+   TABLE. Tables read from blocks and kernels and Bulletin C's own have none given and mark nothing: set `table.vouched` yourself, each time that
+   you load one.
+   Older programs: the eight calls with `marks` need that one argument more, and what fills in a table field by field sets `vouched` as well, to 0
+   for none. Rebuild every file: an object file compiled with the older header still links, and then writes outside its table and through a
+   stray pointer. */
 typedef struct {
     uint32_t count;
     uint32_t months[64];
     int32_t offsets[64];
+    uint32_t vouched;
 } mundreff_table;
+
+/* The number for `vouched` of a year from 1972 and a month from 1 to 12: table.vouched = MUNDREFF_VOUCHED(2026, 12) is 660, December 2026. */
+#define MUNDREFF_VOUCHED(year, month) (12 * ((uint32_t)(year) - 1972) + (uint32_t)(month))
+
+/* The marks beside an answer, each a bit; more may come, so test one with &: if (marks & MUNDREFF_BEYOND). On every refusal they are 0.
+   A call writes them each time, so the pointer may not be NULL, even where you do not look at them.
+   BEYOND: the answer used UTC, and its UTC month is later than the last that the table is vouched for. It is given all the same, and it is right
+   if no leap second is announced that the table lacks; but nobody has vouched for that. Get a newer table before you rely on it.
+   The month is that of the label read, written or shown, for a Julian date that of the instant's label, for a tick that of the new label.
+   A 23:59:60 in a month beyond is refused with NOSECOND and has no mark: before you call the stamp wrong, look for a newer table.
+   BEYOND is never set on the uniform scales. Where no month is given it is not set either, and says nothing. */
+enum { MUNDREFF_BEYOND = 1 };
 
 /* A reading of a clock with its scale. */
 typedef struct {
@@ -87,7 +107,7 @@ typedef struct {
 
 /* An instant is the TAI microseconds from 2000-01-01 12:00:00 TAI. */
 
-/* The table of IERS Bulletin C: 28 entries, the last January 2017 with 37.
+/* The table of IERS Bulletin C: 28 entries, the last January 2017 with 37, and no month given.
    Never refused. */
 uint32_t mundreff_bulletin_c(mundreff_table *table);
 
@@ -99,7 +119,7 @@ uint32_t mundreff_bulletin_c(mundreff_table *table);
    Refusals: CUT, GROUPS, TABLE and TAIL, whichever comes first from the left. */
 uint32_t mundreff_read_block(const uint8_t *block, size_t size, size_t *place, mundreff_table *table);
 
-/* Writes a table as a block, and gives its length.
+/* Writes a table as a block, and gives its length. A vouched month is judged and not written: what reads back has none given.
    Refusals: TABLE, ROOM. */
 uint32_t mundreff_write_block(const mundreff_table *table, uint8_t *out, size_t room, size_t *length);
 
@@ -115,52 +135,53 @@ uint32_t mundreff_write_block(const mundreff_table *table, uint8_t *out, size_t 
    Refusals: KERNEL, TABLE. */
 uint32_t mundreff_read_kernel(const uint8_t *file, size_t size, uint64_t *place, mundreff_table *table);
 
-/* Writes a table as a kernel, from `\begindata` to `\begintext`, a pair to a line, with no final zero, and gives its length.
+/* Writes a table as a kernel, from `\begindata` to `\begintext`, a pair to a line, with no final zero, and gives its length. A vouched
+   month is judged and not written, as above.
    Refusals: TABLE, ROOM. */
 uint32_t mundreff_write_kernel(const mundreff_table *table, uint8_t *out, size_t room, size_t *length);
 
 /* The instant of a stamp.
    Refusals: ASK, TABLE, YEAR, DATE, CLOCK, NOSECOND. */
-uint32_t mundreff_instant_of(const mundreff_table *table, const mundreff_stamp *stamp, int64_t *instant);
+uint32_t mundreff_instant_of(const mundreff_table *table, const mundreff_stamp *stamp, int64_t *instant, uint32_t *marks);
 
 /* The stamp of an instant on a scale.
    Refusals: ASK, TABLE, RANGE. */
-uint32_t mundreff_stamp_of(const mundreff_table *table, int64_t instant, uint32_t scale, mundreff_stamp *stamp);
+uint32_t mundreff_stamp_of(const mundreff_table *table, int64_t instant, uint32_t scale, mundreff_stamp *stamp, uint32_t *marks);
 
 /* Reads a text in any picture, on a scale, as its instant and its stamp. `size` counts no final zero.
    Refusals: ASK, TABLE, SHAPE, YEAR, DATE, CLOCK, NOSECOND. */
-uint32_t mundreff_read_text(const mundreff_table *table, uint32_t scale, const char *text, size_t size, int64_t *instant, mundreff_stamp *stamp);
+uint32_t mundreff_read_text(const mundreff_table *table, uint32_t scale, const char *text, size_t size, int64_t *instant, mundreff_stamp *stamp, uint32_t *marks);
 
 /* Writes an instant in a picture with 0 to 6 digits after the point, cut and never rounded up, with no final zero, and gives the length.
    Note the order, picture and then scale: their numbers overlap, so a swap is not noticed.
    Refusals: ASK, TABLE, RANGE, ROOM. */
-uint32_t mundreff_write_text(const mundreff_table *table, int64_t instant, uint32_t picture, uint32_t scale, uint32_t digits, char *out, size_t room, size_t *length);
+uint32_t mundreff_write_text(const mundreff_table *table, int64_t instant, uint32_t picture, uint32_t scale, uint32_t digits, char *out, size_t room, size_t *length, uint32_t *marks);
 
 /* The two-part Julian date of an instant: a midnight that ends in .5, and the fraction of a day of 86,400 seconds. On UTC an added second has
    the pair of the second after it, so reading it back gives an instant one second later; every other instant comes back exactly.
    Refusals: ASK, TABLE, RANGE. */
-uint32_t mundreff_write_julian(const mundreff_table *table, int64_t instant, uint32_t scale, double *midnight, double *fraction);
+uint32_t mundreff_write_julian(const mundreff_table *table, int64_t instant, uint32_t scale, double *midnight, double *fraction, uint32_t *marks);
 
 /* The instant of a two-part Julian date. The fraction is first rounded to a microsecond of a day of 86,400 seconds, a tie to the later, and
    the result is judged after that: a fraction that rounds to a whole day is the next midnight, on UTC even where an added second lies
    between; one that rounds into a taken-out second is NOSECOND, and past 9999 RANGE.
    Refusals: ASK, TABLE, NUMBER, RANGE, NOSECOND. */
-uint32_t mundreff_read_julian(const mundreff_table *table, uint32_t scale, double midnight, double fraction, int64_t *instant);
+uint32_t mundreff_read_julian(const mundreff_table *table, uint32_t scale, double midnight, double fraction, int64_t *instant, uint32_t *marks);
 
-/* The label at which the plain clock starts: 1972-01-01 00:00:00.
+/* The label at which the plain clock starts: 1972-01-01 00:00:00. It is never BEYOND: no month that can be given lies before it.
    Refusals: TABLE. */
-uint32_t mundreff_start(const mundreff_table *table, mundreff_label *label);
+uint32_t mundreff_start(const mundreff_table *table, mundreff_label *label, uint32_t *marks);
 
 /* A label becomes the one a tick after it; on a refusal it becomes all zero, like every output, so keep a copy where you need it.
    Refusals: TABLE, YEAR, DATE, CLOCK, NOSECOND, RANGE. */
-uint32_t mundreff_tick_in_place(const mundreff_table *table, mundreff_label *label);
+uint32_t mundreff_tick_in_place(const mundreff_table *table, mundreff_label *label, uint32_t *marks);
 
 /* The label one tick after a label; `next` may be `label` itself. It is a copy and the call above.
    Refusals: as above. */
-static inline uint32_t mundreff_tick(const mundreff_table *table, const mundreff_label *label, mundreff_label *next)
+static inline uint32_t mundreff_tick(const mundreff_table *table, const mundreff_label *label, mundreff_label *next, uint32_t *marks)
 {
     *next = *label;
-    return mundreff_tick_in_place(table, next);
+    return mundreff_tick_in_place(table, next, marks);
 }
 
 /* The name of a refusal, without MUNDREFF_; `UNKNOWN` for a number that is none. */

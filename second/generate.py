@@ -89,6 +89,10 @@ def table_line(table, pairs=None):
     return call('table', table.count, pairs, *words)
 
 
+def vouch_line(number):
+    return call('vouch', number)
+
+
 # ---------------------------------------------------------------------------
 # Tables
 
@@ -210,6 +214,36 @@ def random_malformed_table(dice):
     return dice.pick(list(malformed_tables(table)))[1]
 
 
+# The vouched month
+
+def last_entry(table):
+    """The month of a good table's last entry; of any other, a month."""
+    return min(max(table.months), LAST_MONTH)
+
+
+def vouched_numbers(table):
+    """Months plus one, about each limit: none, the first month, the last entry's, December 9999, and all of a u32."""
+    last = last_entry(table)
+    return sorted({0, 1, last, last + 1, last + 2, LAST_MONTH, LAST_MONTH + 1, LAST_MONTH + 2, 2**32 - 1})
+
+
+def random_vouched_number(dice, table):
+    last = last_entry(table)
+    kind = dice.weighted(((8, 'near'), (5, 'any'), (2, 'end'), (2, 'none'), (3, 'limit')))
+    if kind == 'near':
+        return min(last + dice.pick((1, 1, 1, 2, 3, 12, 13)), LAST_MONTH + 1)
+    if kind == 'any':
+        return dice.between(last + 1, LAST_MONTH + 1)
+    if kind == 'end':
+        return dice.pick((LAST_MONTH, LAST_MONTH + 1))
+    return 0 if kind == 'none' else dice.pick(vouched_numbers(table) + [dice.between(0, last), dice.below(2**32)])
+
+
+def first_beyond(table):
+    """The month after the vouched one."""
+    return table.vouched_month + 1
+
+
 # ---------------------------------------------------------------------------
 # Labels and instants
 
@@ -250,6 +284,12 @@ def labels_of_night(month, step):
             + [Label(*second.date_of_day(second.FIRST_DAY[month]), 0, 0, 0)])
 
 
+def midnights_beyond(table):
+    """The instants with which the first month beyond begins, one for each scale, UTC's first."""
+    midnight = second.first_second_of_month(first_beyond(table)) * SECOND
+    return [midnight + table.offsets[table.count - 1] * SECOND, *(midnight - offset for offset in second.SCALE_OFFSET.values())]
+
+
 def is_label(table, scale, label):
     try:
         second.judge_fields(table, scale, label, 0)
@@ -284,7 +324,19 @@ def label_at_step(dice, table):
     return dice.pick(labels_of_night(month, -1))
 
 
+def label_about_vouched(dice, table):
+    """The last seconds before the first month beyond and its first one, or some time in a month about it."""
+    month = first_beyond(table)
+    if dice.chance(0.6):
+        return dice.pick(labels_of_night(month, -1))
+    month = min(max(0, month + dice.pick((-13, -12, -2, -1, -1, 0, 0, 1, 11, 12))), LAST_MONTH)
+    year, month = FIRST_LABEL.year + month // 12, month % 12 + 1
+    return Label(year, month, dice.pick((1, dice.between(1, 28), second.days_in_month(year, month))), *random_time(dice))
+
+
 def random_label(dice, table):
+    if edges_of(table).vouched_month is not None and dice.chance(0.35):
+        return label_about_vouched(dice, table)
     kind = dice.weighted(((30, 'step'), (20, 'edge'), (15, 'mid-year'), (10, 'ends'), (25, 'any')))
     if kind == 'step':
         return label_at_step(dice, edges_of(table))
@@ -325,6 +377,9 @@ def random_instant(dice, table):
     table = edges_of(table)
     kind = dice.weighted(((35, 'step'), (20, 'ends'), (15, 'label'), (15, 'any'), (5, 'noon'), (7, '64'), (3, 'bits')))
     near = dice.between(-3, 3) * SECOND + dice.pick((-1, 0, 0, 1, random_microsecond(dice)))
+    if table.vouched_month is not None and dice.chance(0.35):
+        midnights = midnights_beyond(table)
+        return dice.pick(midnights[:1] * 3 + midnights) + dice.pick((-1, 0, 1, near, near, dice.between(-40, 40) * DAY))
     if kind == 'step':
         return dice.pick(table.held_from) * SECOND + near
     if kind == 'ends':
@@ -768,9 +823,16 @@ MICROSECONDS_OF_DAY = (0, 1, 2, DAY // 2 - 1, DAY // 2, 86_398_000_000, 86_398_9
                        86_399_000_001, DAY - 2, DAY - 1)
 
 
-def pair_at_step(dice, table):
-    """On the day before a step (where the table has one), about its last two seconds."""
-    month = dice.pick(list(table.steps) or [6])
+def month_at_edge(dice, table):
+    """A month with a step (where the table has one) or the first beyond the vouched one."""
+    if table.vouched_month is not None and dice.chance(0.4):
+        return first_beyond(table)
+    return dice.pick(list(table.steps) or [6])
+
+
+def pair_at_edge(dice, table):
+    """On the day before such a month, about its last two seconds."""
+    month = month_at_edge(dice, table)
     boundary = dice.pick((86_398, 86_399, 86_399, 86_400)) * SECOND
     if dice.chance(0.5):
         fraction = dice.pick(fractions_beside_half(boundary - 1) + fractions_of_microsecond(boundary))
@@ -781,15 +843,15 @@ def pair_at_step(dice, table):
 
 def random_pair(dice, table):
     if table.is_good and dice.chance(0.3):
-        return pair_at_step(dice, table)
+        return pair_at_edge(dice, table)
     return random_midnight(dice, table), random_fraction(dice)
 
 
 def random_midnight(dice, table):
-    kind = dice.weighted(((35, 'step'), (25, 'any'), (15, 'ends'), (15, 'list'), (6, 'half'), (4, 'bits')))
+    kind = dice.weighted(((35, 'edge'), (25, 'any'), (15, 'ends'), (15, 'list'), (6, 'half'), (4, 'bits')))
     table = edges_of(table)
-    if kind == 'step' and table.steps:
-        return FIRST_MIDNIGHT + second.FIRST_DAY[dice.pick(list(table.steps))] - dice.pick((1, 1, 1, 0, 2))
+    if kind == 'edge':
+        return FIRST_MIDNIGHT + second.FIRST_DAY[month_at_edge(dice, table)] - dice.pick((1, 1, 1, 0, 2))
     if kind == 'ends':
         return dice.pick((FIRST_MIDNIGHT, LAST_MIDNIGHT)) + dice.pick((-1, 0, 0, 0, 1, 0.5))
     if kind == 'list':
@@ -848,7 +910,7 @@ GOOD_LINES = (
     'table 2 2 0 10 6 11', 'read_block 030C0c', 'read_block -', 'write_block 29', 'read_kernel 5C5c', 'write_kernel 60',
     'instant_of 0 1972 6 30 23 59 60 250000',
     'stamp_of -867931190000000 0', 'read_text 0 313937322d30372d30315430303a30303a3030', 'read_text 1 -', 'write_text 0 0 1 3 23',
-    'write_julian 0 1', 'read_julian 1 4142b42c40000000 3fe0000000000000', 'start', 'tick 1972 6 30 23 59 59',
+    'write_julian 0 1', 'read_julian 1 4142b42c40000000 3fe0000000000000', 'start', 'tick 1972 6 30 23 59 59', 'vouch 541',
 )
 
 
@@ -881,7 +943,8 @@ OTHER_LINES = ('', ' ', '-', '?', '#', 'ok', '\r', 'starts', 'star', 'START', 't
                'read_block -01', 'write_block 4096', 'write_block 4097', 'write_block -1', 'write_block 18446744073709551616',
                'write_text 0 0 0 0 4097', 'write_text 0 0 0 0 0', 'write_text 0 0 0 0 4096', 'read_kernel', 'read_kernel -',
                'read_kernel 5', 'read_kernel 5g', 'read_kernel -5c', 'write_kernel 4096', 'write_kernel 4097', 'write_kernel -1',
-               'write_kernel', 'café', 'read_text 0 é', '\xff\xfe', 'start\x0b', 'start #')
+               'write_kernel', 'vouch', 'vouch ', 'vouch x', 'vouch 1 2', 'vouch -1', 'vouch 4294967295', 'vouch 4294967296', 'vouched 1',
+               'vouch 00541', 'vouch -0', 'café', 'read_text 0 é', '\xff\xfe', 'start\x0b', 'start #')
 
 
 # ---------------------------------------------------------------------------
@@ -890,9 +953,9 @@ OTHER_LINES = ('', ' ', '-', '?', '#', 'ok', '\r', 'starts', 'star', 'START', 't
 class Lines:
     """Random lines; it remembers the table that they have set."""
 
-    WEIGHTS = ((4, 'table'), (10, 'read_block'), (3, 'write_block'), (14, 'read_kernel'), (2, 'write_kernel'), (12, 'instant_of'),
-               (14, 'stamp_of'), (18, 'read_text'), (14, 'write_text'), (8, 'write_julian'), (14, 'read_julian'), (1, 'start'),
-               (12, 'tick'), (5, 'damaged'))
+    WEIGHTS = ((4, 'table'), (5, 'vouch'), (10, 'read_block'), (3, 'write_block'), (14, 'read_kernel'), (2, 'write_kernel'),
+               (12, 'instant_of'), (14, 'stamp_of'), (18, 'read_text'), (14, 'write_text'), (8, 'write_julian'), (14, 'read_julian'),
+               (1, 'start'), (12, 'tick'), (5, 'damaged'))
 
     def __init__(self, seed):
         self.dice = Dice(seed)
@@ -912,6 +975,11 @@ class Lines:
         else:
             self.table = random_table(self.dice) if kind == 'random' else random_malformed_table(self.dice)
         return table_line(self.table, self.dice.pick((None, None, self.table.count % 65, PLACES)))
+
+    def line_vouch(self):
+        number = random_vouched_number(self.dice, self.table)
+        self.table = self.table.vouched_to(number)
+        return vouch_line(number)
 
     def line_read_block(self):
         word = hex_word(random_block(self.dice, self.table))
@@ -956,6 +1024,11 @@ class Lines:
         return call('tick', *any_label(self.dice, self.table))
 
     def line_damaged(self):
+        line = self.any_damaged_line()
+        _, self.table = second.answer_line(self.table, line.encode('latin-1'))  # it may still set a table or a month
+        return line
+
+    def any_damaged_line(self):
         kind = self.dice.below(20)
         if kind == 0:
             return self.dice.pick(OTHER_LINES)
@@ -1271,12 +1344,157 @@ def doubles():
         yield from lines_of_instant(BULLETIN, instant, scales=(UTC,), digits=2)
 
 
+def rows_of_vouched_month():
+    """Bulletin C vouched to January 2017, then to the month before its last entry."""
+    yield from (table_line(BULLETIN), vouch_line(541))
+    for instant in (539_179_236_999_999, 539_179_237_000_000):
+        for scale in (UTC, TAI):
+            yield call('stamp_of', instant, scale)
+    yield from ('tick 2017 1 31 23 59 58', 'tick 2017 1 31 23 59 59', vouch_line(540))
+    for scale in (TAI, 4):
+        yield call('stamp_of', 0, scale)
+
+
+def vouched_tables():
+    """Each with a heading and a month that it is vouched for."""
+    yield 'one entry, to January 1972', table_of_steps([], []).vouched_to(1)
+    yield 'T, to its last entry', T.vouched_to(13)
+    yield 'N, to its last entry', N.vouched_to(7)
+    for month in (1, LAST_MONTH - 1, LAST_MONTH):
+        for step in (1, -1):
+            yield f'month {month}, step {step}, to that month', table_of_one_step(month, step).vouched_to(month + 1)
+    yield '64 neighbouring months, up and down, to the last', table_of_steps(neighbours(1, 63), [1, -1] * 31 + [1]).vouched_to(64)
+    yield 'T, to February 2000', T.vouched_to(338)
+    yield 'N, to February 2100', N.vouched_to(1_538)
+    yield 'B, to November 9999', BULLETIN.vouched_to(LAST_MONTH)
+    yield 'B, to December 9999', BULLETIN.vouched_to(LAST_MONTH + 1)
+
+
+def end_of_vouched_month(table, scales, pictures, digits):
+    """The table's last step, which is not beyond, then the vouched month's last seconds and the first one beyond."""
+    yield from (table_line(table), vouch_line(first_beyond(table)), 'start')
+    for month, step in list(table.steps.items())[-1:] + [(first_beyond(table), -1)]:
+        for label in labels_of_night(month, step):
+            yield call('tick', *label)
+            yield call('instant_of', UTC, *label, 999_999)
+    yield from lines_of_instant(table, table.held_from[-1] * SECOND - 1, (UTC,), pictures, digits)
+    for near in (-1, 0):
+        yield from lines_of_instant(table, midnights_beyond(table)[0] + near, scales, pictures, digits)
+
+
+def ends_of_vouched_months():
+    table = BULLETIN.vouched_to(541)
+    yield '# Bulletin C, vouched to January 2017'
+    yield from end_of_vouched_month(table, SCALES, PICTURES, 6)
+    for scale in (TAI, TDT, GPS):
+        yield from lines_of_instant(table, midnights_beyond(table)[scale], (UTC, scale), (0,), 0)
+    for place, (heading, table) in enumerate(vouched_tables()):
+        yield '# vouched: ' + heading
+        yield from end_of_vouched_month(table, (UTC, place + 1) if place < 3 else (UTC,), (place % 3,), place % 7)
+
+
+def julian_dates_of_vouched_month():
+    """The vouched month's last day rounds into the next month; the taken-out second before N's last entry stays 6."""
+    for table, month in ((BULLETIN, 541), (N, 7), (N, LAST_MONTH + 1)):
+        yield from (table_line(table), vouch_line(month))
+        last_day = FIRST_MIDNIGHT + second.FIRST_DAY[month] - 1
+        for fraction in fractions_beside_half(DAY - 1)[1:] + [beside(1.0, -1)]:
+            for scale in (UTC, GPS):
+                yield call('read_julian', scale, bits_word(last_day), bits_word(fraction))
+        yield call('read_julian', UTC, bits_word(last_day + 1), bits_word(0.0))
+    for microsecond in (DAY - SECOND - 1, DAY - SECOND, DAY - 1):
+        yield call('read_julian', UTC, bits_word(2441498.5), bits_word(microsecond / DAY))
+
+
+def years_about_vouched_month():
+    """Earlier months of later years and later months of earlier years."""
+    yield from (table_line(BULLETIN), vouch_line(582))  # June 2020
+    for year, month in ((1972, 12), (2016, 7), (2019, 6), (2019, 12), (2020, 5), (2020, 6), (2020, 7), (2021, 1), (2021, 6), (2100, 1),
+                        (2420, 5), (2420, 6), (9999, 1)):
+        label = Label(year, month, second.days_in_month(year, month), 12, 0, 0)
+        yield call('tick', *label)
+        for scale in (UTC, TDT):
+            yield call('instant_of', scale, *label, 0)
+            yield text_line(scale, text_of(month % 3, label, ''))
+
+
+def refusals_beyond_vouched_month():
+    """A refused answer has no mark, whatever its label."""
+    yield from (table_line(BULLETIN), vouch_line(541))
+    label = Label(2020, 6, 30, 23, 59, 59)
+    for field, values in (('year', (1971, 9999, 10_000)), ('month', (0, 13)), ('day', (0, 31)), ('hour', (24,)), ('minute', (60,)),
+                          ('second', (60, 61))):
+        for value in values:
+            spoilt = label._replace(**{field: value})
+            yield from (call('tick', *spoilt), call('instant_of', UTC, *spoilt, 0), text_line(UTC, text_of(0, spoilt, '')))
+    yield call('instant_of', UTC, *label, SECOND)
+    yield from (text_line(UTC, text) for text in ('', '2020-06-30T23:59:59.', '2020-06-30T23:59:59Z', '2020-367T23:59:59'))
+    first, last = ends_of_scale(BULLETIN, UTC)
+    for instant in (first - 1, last, last + 1, 2**63 - 1):
+        yield from (call('stamp_of', instant, UTC), call('write_text', instant, 0, UTC, 0, 19), call('write_julian', instant, UTC))
+    for picture, scale, digits, room in ((0, 0, 6, 25), (0, 0, 6, 26), (3, 0, 0, 26), (0, 4, 0, 26), (0, 0, 7, 26), (1, 0, 0, 16)):
+        yield call('write_text', last, picture, scale, digits, room)
+    for midnight, fraction in ((LAST_MIDNIGHT, 0.5), (LAST_MIDNIGHT, 1.0), (NOT_FINITE[2], 0.5), (LAST_MIDNIGHT + 1, 0.5),
+                               (LAST_MIDNIGHT, beside(1.0, -1))):
+        yield call('read_julian', UTC, bits_word(midnight), bits_word(fraction))
+    yield from ('tick 9999 12 31 23 59 58', 'tick 9999 12 31 23 59 59')
+
+
+def judged_vouched_months():
+    """Each limit of the number under good tables, and any number under malformed ones."""
+    last_tick = call('tick', *LAST_LABEL._replace(second=58))  # beyond every month but December 9999
+    for table in (BULLETIN, N, table_of_steps([], []), table_of_steps(neighbours(LAST_MONTH - 63, 63), [1] * 63)):
+        yield table_line(table)
+        for number in vouched_numbers(table):
+            yield from (vouch_line(number), last_tick, call('stamp_of', 0, TAI), call('write_block', len(second.block_of_table(table))))
+            yield call('write_kernel', 60)
+    for number, scale in ((12, UTC), (12, 4), (13, UTC), (LAST_MONTH + 2, GPS)):
+        yield from (table_line(T), vouch_line(number))
+        yield from one_of_each_call(scale)
+    for heading, malformed in malformed_tables(T):
+        yield '# malformed and vouched: ' + heading
+        yield from (table_line(malformed), vouch_line(13), last_tick)
+    for count in (0, PLACES + 1, 2**64 - 1):
+        yield table_line(changed(T, count=count))
+        for number in (1, 12, LAST_MONTH + 1, 2**32 - 1):
+            yield from (vouch_line(number), call('stamp_of', 0, UTC), call('stamp_of', 0, 4), 'write_block 0')
+
+
+def numbers_in_force():
+    """What sets the number and what leaves it, each with a call that shows it."""
+    beyond = call('stamp_of', 539_179_237_000_000, UTC)
+    block, kernel = (hex_word(part(BULLETIN)) for part in (second.block_of_table, second.kernel_of_table))
+    yield from (table_line(BULLETIN), beyond, vouch_line(541), beyond, vouch_line(542), beyond, vouch_line(540), beyond, vouch_line(541))
+    for line in ('table', 'table 1 1 0', 'table 1 65', 'write_block 29', 'write_kernel 1032', call('read_block', block), 'read_block 01',
+                 call('read_kernel', kernel), 'vouch 1 2', 'vouch', '', table_line(BULLETIN)):
+        yield from (line, beyond)
+    for word in ('', 'x', '-1', '-0', '00', '+541', '0x21d', '541 ', '541\r', '0' * 40 + '541', str(2**32 - 1), str(2**32), '9' * 40):
+        yield from (vouch_line(541), vouch_line(word), beyond)
+
+
+def vouched_month():
+    yield from rows_of_vouched_month()
+    yield from ends_of_vouched_months()
+    yield '# rounded beyond the vouched month'
+    yield from julian_dates_of_vouched_month()
+    yield '# about the vouched month, and far from it'
+    yield from years_about_vouched_month()
+    yield '# refused beyond the vouched month'
+    yield from refusals_beyond_vouched_month()
+    yield '# the number judged'
+    yield from judged_vouched_months()
+    yield '# the number in force'
+    yield from numbers_in_force()
+    yield table_line(BULLETIN)
+
+
 def protocol():
     yield from OTHER_LINES
+    yield table_line(BULLETIN)
     yield from long_lines()
     for line in GOOD_LINES:
         yield from damaged_lines(line)
-    yield table_line(BULLETIN)
+        yield table_line(BULLETIN)
 
 
 SECTIONS = (
@@ -1290,6 +1508,7 @@ SECTIONS = (
     ('Texts wrong at each position', texts),
     ('Buffers', buffers),
     ('Doubles', doubles),
+    ('The vouched month', vouched_month),
     ('Lines that are no calls', protocol),
 )
 

@@ -202,18 +202,25 @@ class Table:
 
     Since it never changes, what the calls ask of it is worked out once: whether
     it is good, and then the step of each month that has one, and the TAI second
-    (from 2000-01-01 12:00:00 TAI) from which each entry holds.
+    (from 2000-01-01 12:00:00 TAI) from which each entry holds.  The last month
+    that it is vouched for comes as a number, see that section.
     """
 
-    def __init__(self, count, months, offsets):
+    def __init__(self, count, months, offsets, vouched=0):
         self.count = count
         self.months = tuple(months) + (0,) * (PLACES - len(months))
         self.offsets = tuple(offsets) + (0,) * (PLACES - len(offsets))
-        self.is_good = is_good_table(count, self.months, self.offsets)
+        self.vouched_month = vouched_month_of_number(vouched)
+        self.is_good = (is_good_table(count, self.months, self.offsets)
+                        and is_good_vouched_month(self.vouched_month, self.months[count - 1]))
         if self.is_good:
             self.used_months = self.months[:count]
             self.steps = {self.months[i]: self.offsets[i] - self.offsets[i - 1] for i in range(1, count)}
             self.held_from = [first_second_of_month(self.months[i]) + self.offsets[i] for i in range(count)]
+
+    def vouched_to(self, number):
+        """The same entries, with this number for the vouched month."""
+        return Table(self.count, self.months, self.offsets, number)
 
 
 def is_good_table(count, months, offsets):
@@ -316,6 +323,33 @@ def table_of_bulletin_c():
     return Table(len(BULLETIN_C),
                  [month_number(year, month) for year, month, _ in BULLETIN_C],
                  [offset for _, _, offset in BULLETIN_C])
+
+
+# ---------------------------------------------------------------------------
+# The vouched month
+
+BEYOND = 1  # of the marks beside an answer
+
+
+def vouched_month_of_number(number):
+    """The number is the month plus one; 0 says that none is given."""
+    return number - 1 if number > 0 else None
+
+
+def is_good_vouched_month(month, month_of_last_entry):
+    return month is None or month_of_last_entry <= month <= LAST_MONTH
+
+
+def marks_of_label(table, scale, label):
+    """What stands beside an answer that has this label."""
+    if scale != UTC or table.vouched_month is None:
+        return 0
+    return BEYOND if month_number(label.year, label.month) > table.vouched_month else 0
+
+
+def marks_of_instant(table, scale, instant):
+    """What stands beside an answer without a label: the instant's own label decides."""
+    return marks_of_label(table, scale, stamp_of(table, instant, scale).label)
 
 
 # ---------------------------------------------------------------------------
@@ -866,65 +900,88 @@ def answer_read_kernel(_, file):
     return answer_of_reader(read_kernel, file)
 
 
-def answer_of_writer(room, write):
-    try:
-        number, result = 0, write(room)
-    except Refused as refused:
-        number, result = refused.number, b''
+def words_of_written(number, result, room):
     buffer = result + BEFORE_THE_CALL * (room - len(result))
     return words_of(number, len(result), buffer.hex() or '-')
 
 
+def answer_of_writer(write, table, room):
+    try:
+        return words_of_written(0, write(table, room), room)
+    except Refused as refused:
+        return words_of_written(refused.number, b'', room)
+
+
 def answer_write_block(table, room):
-    return answer_of_writer(room, lambda room: write_block(table, room))
+    return answer_of_writer(write_block, table, room)
 
 
 def answer_write_kernel(table, room):
-    return answer_of_writer(room, lambda room: write_kernel(table, room))
+    return answer_of_writer(write_kernel, table, room)
 
 
 def answer_write_text(table, instant, picture, scale, digits, room):
-    return answer_of_writer(room, lambda room: write_text(table, instant, picture, scale, digits, room))
+    try:
+        text = write_text(table, instant, picture, scale, digits, room)
+        return words_of(words_of_written(0, text, room), marks_of_instant(table, scale, instant))
+    except Refused as refused:
+        return words_of(words_of_written(refused.number, b'', room), 0)
 
 
 def answer_or_zeros(give, zeros):
-    """The words of an answer after a 0, or a refusal's number and zero in all other results."""
+    """After a 0 the words of an answer and its marks, or a refusal's number and zero in all other results."""
     try:
-        return f'0 {give()}'
+        return words_of(0, *give())
     except Refused as refused:
-        return f'{refused.number} {zeros}'
+        return words_of(refused.number, zeros, 0)
 
 
 def answer_instant_of(table, scale, *fields):
-    return answer_or_zeros(lambda: words_of(instant_of(table, scale, Label(*fields[:6]), fields[6])), '0')
+    label, microsecond = Label(*fields[:6]), fields[6]
+    return answer_or_zeros(lambda: (instant_of(table, scale, label, microsecond), marks_of_label(table, scale, label)), '0')
 
 
 def answer_stamp_of(table, instant, scale):
-    return answer_or_zeros(lambda: words_of_stamp(stamp_of(table, instant, scale)), '0 0 0 0 0 0 0 0')
+    def give():
+        stamp = stamp_of(table, instant, scale)
+        return words_of_stamp(stamp), marks_of_label(table, scale, stamp.label)
+    return answer_or_zeros(give, '0 0 0 0 0 0 0 0')
 
 
 def answer_read_text(table, scale, text):
     def give():
         instant, stamp = read_text(table, scale, text)
-        return f'{instant} {words_of_stamp(stamp)}'
+        return instant, words_of_stamp(stamp), marks_of_label(table, scale, stamp.label)
     return answer_or_zeros(give, '0 0 0 0 0 0 0 0 0')
 
 
 def answer_write_julian(table, instant, scale):
-    return answer_or_zeros(lambda: ' '.join(map(words_of_bits, write_julian(table, instant, scale))),
-                           '0000000000000000 0000000000000000')
+    def give():
+        pair = write_julian(table, instant, scale)
+        return *map(words_of_bits, pair), marks_of_instant(table, scale, instant)
+    return answer_or_zeros(give, '0000000000000000 0000000000000000')
 
 
 def answer_read_julian(table, scale, midnight, fraction):
-    return answer_or_zeros(lambda: words_of(read_julian(table, scale, midnight, fraction)), '0')
+    def give():
+        instant = read_julian(table, scale, midnight, fraction)
+        return instant, marks_of_instant(table, scale, instant)
+    return answer_or_zeros(give, '0')
+
+
+def answer_of_clock(table, give_label):
+    def give():
+        label = give_label()
+        return *label, marks_of_label(table, UTC, label)
+    return answer_or_zeros(give, '0 0 0 0 0 0')
 
 
 def answer_start(table):
-    return answer_or_zeros(lambda: words_of(*start(table)), '0 0 0 0 0 0')
+    return answer_of_clock(table, lambda: start(table))
 
 
 def answer_tick(table, *fields):
-    return answer_or_zeros(lambda: words_of(*tick(table, Label(*fields))), '0 0 0 0 0 0')
+    return answer_of_clock(table, lambda: tick(table, Label(*fields)))
 
 
 CALLS = {  # each with the types of its words
@@ -965,6 +1022,8 @@ def answer_line(table, line):
     try:
         if name == b'table':
             return 'ok', table_of_words(words)
+        if name == b'vouch':
+            return 'ok', table.vouched_to(*values_of_words((U32,), words))
         if name not in CALLS:
             return '?', table
         answer, types = CALLS[name]

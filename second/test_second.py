@@ -22,6 +22,7 @@ HERE = os.path.dirname(os.path.abspath(__file__))
 B_LINE = 'table 28 28 ' + ' '.join(f'{(year - 1972) * 12 + month - 1} {offset}' for year, month, offset in second.BULLETIN_C)
 T_LINE = 'table 3 3 0 10 6 11 12 12'
 N_LINE = 'table 2 2 0 10 6 9'
+CALLS_WITH_MARKS = ('instant_of', 'stamp_of', 'read_text', 'write_text', 'write_julian', 'read_julian', 'start', 'tick')
 
 
 def answers(*lines, end='\n'):
@@ -32,6 +33,9 @@ def answers(*lines, end='\n'):
 
 
 def expect(line, answer, table=B_LINE):
+    """The answer without its marks: a table line gives no month, so they are 0."""
+    if line.split(' ')[0] in CALLS_WITH_MARKS:
+        answer += ' 0'
     ok, found = answers(table, line)
     assert (ok, found) == ('ok', answer), f'{table[:40]} | {line[:200]}: expected {answer}, found {found}'
 
@@ -264,6 +268,118 @@ def test_written_kernels():
 
 
 # ---------------------------------------------------------------------------
+# The vouched month
+
+def expect_vouched(number, table, *lines_and_answers):
+    """Whole answers, with their marks, once this number is set."""
+    for line, answer in lines_and_answers:
+        found = answers(table, f'vouch {number}', line)
+        assert found == ['ok', 'ok', answer], f'{table[:40]} | vouch {number} | {line}: expected {answer}, found {found}'
+
+
+def test_rows_of_the_vouched_month():
+    expect_vouched(541, B_LINE, ('stamp_of 539179236999999 0', '0 0 2017 1 31 23 59 59 999999 0'),
+                   ('stamp_of 539179237000000 0', '0 0 2017 2 1 0 0 0 0 1'), ('stamp_of 539179237000000 1', '0 1 2017 2 1 0 0 37 0 0'),
+                   ('tick 2017 1 31 23 59 59', '0 2017 2 1 0 0 0 1'))
+    expect_vouched(540, B_LINE, ('stamp_of 0 1', '11 0 0 0 0 0 0 0 0 0'), ('stamp_of 0 4', '8 0 0 0 0 0 0 0 0 0'))
+
+
+def test_marks_of_each_call():
+    """T is vouched to January 1973, its last entry's month: 31 days after -852,033,588, the second -849,355,188 is the first beyond."""
+    january, february = bits(2441713.5), f'{bits(2441714.5)} {bits(0.0)}'  # the days 1973-01-31 and 1973-02-01
+    last = bits(86_399_999_999 / 86_400_000_000)
+    expect_vouched(
+        13, T_LINE, ('instant_of 0 1973 1 31 23 59 59 999999', '0 -849355188000001 0'),
+        ('instant_of 0 1973 2 1 0 0 0 0', '0 -849355188000000 1'), ('stamp_of -849355188000001 0', '0 0 1973 1 31 23 59 59 999999 0'),
+        ('stamp_of -849355188000000 0', '0 0 1973 2 1 0 0 0 0 1'),
+        (text_call(UTC, '1973-031T23:59:59.999999'), '0 -849355188000001 0 1973 1 31 23 59 59 999999 0'),
+        (text_call(UTC, '1973 FEB 01 00:00:00'), '0 -849355188000000 0 1973 2 1 0 0 0 0 1'),
+        ('write_text -849355188000001 0 0 0 20', '0 19 ' + b'1973-01-31T23:59:59'.hex() + 'a5 0'),
+        ('write_text -849355188000000 1 0 1 19', '0 19 ' + b'1973-032T00:00:00.0'.hex() + ' 1'),
+        ('write_julian -849355188000001 0', f'0 {january} {last} 0'), ('write_julian -849355188000000 0', f'0 {february} 1'),
+        (f'read_julian 0 {january} {last}', '0 -849355188000001 0'), (f'read_julian 0 {february}', '0 -849355188000000 1'),
+        (f'read_julian 0 {january} {bits(1 - 2.0**-53)}', '0 -849355188000000 1'),
+        ('start', '0 1972 1 1 0 0 0 0'), ('tick 1973 1 31 23 59 58', '0 1973 1 31 23 59 59 0'),
+        ('tick 1973 1 31 23 59 59', '0 1973 2 1 0 0 0 1'), ('tick 1973 2 1 0 0 0', '0 1973 2 1 0 0 1 1'),
+        ('tick 1974 1 1 0 0 0', '0 1974 1 1 0 0 1 1'), ('tick 1972 12 31 0 0 0', '0 1972 12 31 0 0 1 0'))
+
+
+def test_no_marks_on_uniform_scales():
+    midnight = '1973 2 1 0 0 0 0'
+    for scale, instant in ((TAI, -849_355_200_000_000), (TDT, -849_355_232_184_000), (GPS, -849_355_181_000_000)):
+        expect_vouched(13, T_LINE, (f'instant_of {scale} {midnight}', f'0 {instant} 0'),
+                       (f'stamp_of {instant} {scale}', f'0 {scale} {midnight} 0'),
+                       (text_call(scale, '1973-032T00:00:00'), f'0 {instant} {scale} {midnight} 0'),
+                       (f'write_text {instant} 1 {scale} 0 17', f'0 17 {b"1973-032T00:00:00".hex()} 0'),
+                       (f'write_julian {instant} {scale}', f'0 {bits(2441714.5)} {bits(0.0)} 0'),
+                       (f'read_julian {scale} {bits(2441714.5)} {bits(0.0)}', f'0 {instant} 0'))
+
+
+def test_steps_at_the_vouched_month():
+    """The second before the last entry is not beyond, added or taken out; one at the vouched month's end has its entry after it."""
+    expect_vouched(13, T_LINE, ('tick 1972 12 31 23 59 59', '0 1972 12 31 23 59 60 0'),
+                   ('tick 1972 12 31 23 59 60', '0 1973 1 1 0 0 0 0'),
+                   ('instant_of 0 1972 12 31 23 59 60 250000', '0 -852033588750000 0'),
+                   ('stamp_of -852033588750000 0', '0 0 1972 12 31 23 59 60 250000 0'),
+                   ('write_julian -852033588750000 0', f'0 {bits(2441683.5)} {bits(250_000 / 86_400_000_000)} 0'),
+                   (text_call(UTC, '1973-01-31T23:59:60'), '6 0 0 0 0 0 0 0 0 0 0'))
+    expect_vouched(12, T_LINE, ('tick 1972 12 31 23 59 59', '11 0 0 0 0 0 0 0'))
+    expect_vouched(7, N_LINE, ('tick 1972 6 30 23 59 58', '0 1972 7 1 0 0 0 0'), ('tick 1972 6 30 23 59 59', '6 0 0 0 0 0 0 0'),
+                   ('tick 1972 7 31 23 59 59', '0 1972 8 1 0 0 0 1'), ('stamp_of -865252791000001 0', '0 0 1972 7 31 23 59 59 999999 0'),
+                   ('stamp_of -865252791000000 0', '0 0 1972 8 1 0 0 0 0 1'))
+    expect_vouched(6, N_LINE, ('tick 1972 6 30 23 59 58', '11 0 0 0 0 0 0 0'))
+
+
+def test_ends_of_the_vouched_month():
+    one = 'table 1 1 0 10'
+    expect_vouched(1, one, ('start', '0 1972 1 1 0 0 0 0'), ('tick 1972 1 31 23 59 59', '0 1972 2 1 0 0 0 1'))
+    for number, marks in ((0, 0), (96_335, 1), (96_336, 0)):
+        expect_vouched(number, one, ('tick 9999 11 30 23 59 59', f'0 9999 12 1 0 0 0 {marks}'),
+                       ('tick 9999 12 31 23 59 58', f'0 9999 12 31 23 59 59 {marks}'), ('tick 9999 12 31 23 59 59', '7 0 0 0 0 0 0 0'),
+                       ('tick 9999 11 30 23 59 58', '0 9999 11 30 23 59 59 0'),
+                       ('stamp_of 252455572809999999 0', f'0 0 9999 12 31 23 59 59 999999 {marks}'))
+    last = 'table 2 2 0 10 96335 9'
+    expect_vouched(96_336, last, ('tick 9999 11 30 23 59 58', '0 9999 12 1 0 0 0 0'), ('write_block 4', '0 4 029fe10b'))
+    for number in (1, 96_335, 96_337, 2**31, 2**32 - 1):
+        expect_vouched(number, last, ('start', '11 0 0 0 0 0 0 0'))
+
+
+def test_refusals_with_a_vouched_month():
+    for number in (1, 12, 96_337, 4_294_967_295):
+        expect_vouched(
+            number, T_LINE, ('start', '11 0 0 0 0 0 0 0'), ('tick 0 0 0 0 0 0', '11 0 0 0 0 0 0 0'), ('write_block 2', '11 0 a5a5'),
+            ('write_kernel 2', '11 0 a5a5'), ('instant_of 3 0 0 0 99 99 99 1000000', '11 0 0'),
+            ('instant_of 4 0 0 0 99 99 99 1000000', '8 0 0'), (text_call(TAI, ''), '11 0 0 0 0 0 0 0 0 0 0'),
+            (text_call(4, ''), '8 0 0 0 0 0 0 0 0 0 0'), ('write_text 0 0 1 0 1', '11 0 a5 0'), ('write_text 0 3 1 0 1', '8 0 a5 0'),
+            ('write_julian 0 2', '11 0000000000000000 0000000000000000 0'), ('read_julian 1 7ff8000000000000 7ff8000000000000', '11 0 0'),
+            ('read_block 030c0c', '0 0 3 3 0 10 6 11 12 12'))
+    for table in ('table 0 0', 'table 0 1 0 10', 'table 65 1 0 10', 'table 18446744073709551615 1 0 10', 'table 2 2 0 10 6 12',
+                  'table 1 2 0 10 6 0'):
+        for number in (0, 1, 7, 96_336, 4_294_967_295):
+            expect_vouched(number, table, ('stamp_of 0 0', '11 0 0 0 0 0 0 0 0 0'), ('stamp_of 0 4', '8 0 0 0 0 0 0 0 0 0'))
+    expect_vouched(
+        541, B_LINE, ('tick 10000 1 1 0 0 0', '3 0 0 0 0 0 0 0'), ('tick 2020 13 1 0 0 0', '4 0 0 0 0 0 0 0'),
+        ('tick 2020 1 1 24 0 0', '5 0 0 0 0 0 0 0'), ('instant_of 0 2020 6 30 23 59 60 0', '6 0 0'),
+        (text_call(UTC, '2020-06-30T23:59:59.'), '2 0 0 0 0 0 0 0 0 0 0'), ('stamp_of 252455572837000000 0', '7 0 0 0 0 0 0 0 0 0'),
+        ('write_text 600000000000000 0 0 0 3', '1 0 a5a5a5 0'), ('write_text 600000000000000 0 0 7 0', '8 0 - 0'),
+        ('write_julian 252455572837000000 0', '7 0000000000000000 0000000000000000 0'),
+        (f'read_julian 0 {bits(5373483.5)} {bits(1.0)}', '13 0 0'), (f'read_julian 0 {bits(5373483.5)} {bits(1 - 2.0**-53)}', '7 0 0'))
+
+
+def test_number_in_force():
+    """A table line takes the month away; a line that is no call, a reader or a writer leaves it."""
+    beyond, marked, plain = 'tick 2020 1 1 0 0 0', '0 2020 1 1 0 0 1 1', '0 2020 1 1 0 0 1 0'
+    assert answers(beyond, 'vouch 541', beyond, B_LINE, beyond) == [plain, 'ok', marked, 'ok', plain]
+    assert answers('vouch 540', beyond, 'vouch 541', beyond, 'vouch 0', beyond) == ['ok', '11 0 0 0 0 0 0 0', 'ok', marked, 'ok', plain]
+    assert answers('vouch 0000541', beyond, 'vouch -0', beyond) == ['ok', marked, 'ok', plain]
+    for line in ('vouch', 'vouch x', 'vouch 1 2', 'vouch 4294967296', 'table 1 1 0', 'read_block 01', 'read_block 00', 'write_block 0',
+                 'write_kernel 1', kernel_call(H + G)):
+        assert answers('vouch 541', line, beyond)[-1] == marked, line
+    for writer in ('write_block 29', 'write_kernel 1032'):
+        assert answers('vouch 541', writer, 'vouch 0', writer)[1::2] == answers(writer) * 2
+
+
+# ---------------------------------------------------------------------------
 # What the scope leaves open, as docs/DECISIONS.md settles it
 
 def test_readings_of_instants():
@@ -331,7 +447,7 @@ def test_readings_of_texts():
     months = ('JAN', 'FEB', 'MAR', 'APR', 'MAY', 'JUN', 'JUL', 'AUG', 'SEP', 'OCT', 'NOV', 'DEC')
     for number, name in enumerate(months, 1):
         ok = answers(text_call(UTC, f'1999 {name} 02 03:04:05'))[0]
-        assert ok.endswith(f' 0 1999 {number} 2 3 4 5 0') and ok.startswith('0 '), ok
+        assert ok.endswith(f' 0 1999 {number} 2 3 4 5 0 0') and ok.startswith('0 '), ok
     for text in ('', '.', '1986 Apr 12 16:31:09', '1986 APX 12 16:31:09', '1986-04-12T16:31:09.', '1986-04-12T16:31:09.1234567',
                  '1986 APR  5 16:31:09',
                  '1986 APR 5 16:31:09', '1986-04-12T16:31:09\n', '1986-04-12T16:31:09Z', ' 1986-04-12T16:31:09', '1986-04-12t16:31:09',
@@ -403,7 +519,7 @@ def test_fraction_is_rounded_once():
 # The protocol
 
 def test_lines():
-    start = '0 1972 1 1 0 0 0'
+    start = '0 1972 1 1 0 0 0 0'
     assert answers('start', end='') == [start] and answers(end='') == []
     assert answers('', 'start', '') == ['?', start, '?']
     for line in ('start ', ' start', 'start\r', 'START', 'start 0', 'stamp_of 0', 'stamp_of  0 1', 'stamp_of 0 1 1', 'stamp_of 0\t1',
@@ -414,7 +530,8 @@ def test_lines():
                  'write_kernel', 'write_kernel 4097', 'write_kernel -1', 'read_julian 1 3fe000000000000 3fe0000000000000',
                  'read_julian 1 03fe0000000000000 3fe0000000000000', 'table', 'table 1', 'table 1 1 0', 'table 1 1 0 10 6',
                  'table 1 65' + ' 0 0' * 65, 'table 18446744073709551616 0', 'table 1 1 4294967296 10', 'table 1 1 0 2147483648',
-                 'table 1 1 0 -2147483649', 'table -1 0', 'stamp_of 1\u00b2 1'):
+                 'table 1 1 0 -2147483649', 'table -1 0', 'stamp_of 1\u00b2 1', 'vouch', 'vouch ', 'vouch x', 'vouch 1 2', 'vouch -1',
+                 'vouch  1', 'vouch 1 ', 'vouch +1', 'vouch 0x1', 'vouch 4294967296', 'VOUCH 1', 'vouched 1'):
         assert answers(line, 'start') == ['?', start], line
     expect('stamp_of -0 0001', '0 1 2000 1 1 12 0 0 0')
     expect('tick 1972 1 1 0 0 -0', '0 1972 1 1 0 0 1')
@@ -429,7 +546,7 @@ def test_lines():
 def test_long_lines():
     def tick(size):
         return 'tick 1972 1 1 0 0 ' + '7'.rjust(size - 18, '0')
-    next_label, next_start = '0 1972 1 1 0 0 8', '0 1972 1 1 0 0 0'
+    next_label, next_start = '0 1972 1 1 0 0 8 0', '0 1972 1 1 0 0 0 0'
     for size in (2048, 2049, 139_999, 140_000):
         assert answers(tick(size), 'start') == [next_label, next_start]
         assert answers(tick(size), end='') == [next_label]
@@ -483,6 +600,25 @@ def test_round_trips():
         assert second.read_text(table, scale, text) == (instant, stamp)
         shift = second.SECOND if stamp.label.second == 60 else 0
         assert second.read_julian(table, scale, *second.write_julian(table, instant, scale)) == instant + shift
+
+
+def test_marks_against_instants():
+    """The answers are those without the month; beyond begins with one instant, the first midnight after the vouched month."""
+    dice = generate.Dice(3)
+    for _ in range(300):
+        table = generate.random_table(dice)
+        last_entry = table.months[table.count - 1]
+        vouched = table.vouched_to(dice.pick((last_entry, dice.between(last_entry, 96_335))) + 1)
+        assert second.read_block(second.write_block(vouched, 256)).__dict__ == table.__dict__
+        assert second.read_kernel(second.write_kernel(vouched, 4_096)).__dict__ == table.__dict__
+        midnight = generate.midnights_beyond(vouched)[0]
+        for instant in (midnight - 1, midnight, generate.random_instant(dice, vouched)):
+            for scale in generate.SCALES:
+                is_beyond = scale == UTC and instant >= midnight
+                for line in generate.lines_of_instant(table, instant, (scale,), (dice.pick(generate.PICTURES),), 6):
+                    *answer, marks = second.answer_line(vouched, line.encode())[0].split()
+                    assert [*answer, '0'] == second.answer_line(table, line.encode())[0].split()
+                    assert marks == ('1' if answer[0] == '0' and is_beyond else '0'), (line, vouched.__dict__)
 
 
 def test_bulletin_can_disagree():

@@ -1,3 +1,4 @@
 pub mod Refusals
+pub mod Marks
 pub mod Buffers
 pub mod Promise

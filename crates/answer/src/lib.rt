@@ -1,8 +1,9 @@
-// Why a call is refused, and the one function that meets a lent buffer.
+// Why a call is refused, the marks beside an answer as a number, and the one function that meets a lent buffer.
 // Every public call answers a value or one of the refusals, in an order that `refusing` of specs/ says.
 ghost use mathlib.Core.Path.{_≡_};
 ghost use mathlib.Core.List.{[]};
 ghost use Rattle.answer.specs.Refusals.{number};
+ghost use Rattle.answer.specs.Marks.{marks};
 ghost use Rattle.answer.specs.Buffers.{written, bufferAfter};
 
 // The scope's thirteen in its order, and those that requests added.
@@ -49,6 +50,16 @@ pub fn number_of(why: Refusal) -> u32
         Refusal::Number => 13,
         Refusal::Kernel => 14,
     }
+}
+
+// The marks beside an answer as one number.
+pub fn marks_of(beyond: bool) -> u32
+    ensures { λ r. ⌜ r ≡ marks beyond ⌝ }
+{
+    if beyond {
+        return 1;
+    }
+    0
 }
 
 // Writes all bytes to the front of a lent buffer, or none where they are too many.

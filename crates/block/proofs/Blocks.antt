@@ -7,13 +7,20 @@ use native.Mathlib.Omega.{arith}
 use lib.ListN.{length, take}
 use lib.Seq.{sets, length-sets}
 use Rattle.leap.specs.declared.Table.{Table}
+use Rattle.leap.specs.Leap.{vouchedTo}
 use Rattle.leap.specs.Entries.{Entry, entry, entriesFrom}
 use Rattle.leap.proofs.Facts.{Later, Accepted}
+use Rattle.leap.proofs.Entries.{entries-same}
 use Rattle.block.specs.Numbers.{numberBytes}
 use Rattle.block.specs.Blocks.{stepNumber, stepBytes, blockOf}
 use Rattle.block.proofs.Numbers.{number-size}
 use Rattle.block.proofs.Steps.{bit-small}
 use Rattle.laws.proofs.Placed.{take-sets}
+
+-- the month that a table is vouched for is not in its block
+pub block-same : (v : ℕ) (t : Table) → blockOf (vouchedTo v t) ≡ blockOf t
+unfolding blockOf
+block-same v t = ap (λ es. numberBytes (t .count) ++ stepBytes es) (entries-same v t)
 
 pub step-small : {e f : Entry} → Later e f → stepNumber e f < 128 ^ 3
 step-small {e} {f} l = omega (arith, l .early, bit-small (e .1) (f .1))

@@ -15,7 +15,7 @@ use Rattle.answer.specs.Refusals.{number}
 use Rattle.answer.proofs.Orders.{number-some, numbers-differ}
 use Rattle.answer.proofs.Promise.{writer}
 use Rattle.leap.specs.declared.Table.{Table}
-use Rattle.leap.specs.Leap.{lastEntryMonth, accepted}
+use Rattle.leap.specs.Leap.{lastEntryMonth}
 use Rattle.leap.specs.Entries.{Entry, firstEntry, entriesFrom, entries, tableOf, Good}
 use Rattle.leap.specs.Readers.{noTable, tableResults}
 use Rattle.leap.specs.Outcomes.{Outcome, entered, fault, joined, tableRead}
@@ -32,7 +32,7 @@ use Rattle.block.specs.Promise.{Bytes, GivesTable, OneToOne, ReadsBlock,
 use Rattle.block.proofs.Numbers.{read-written, written-read, bytes-append, bytes-groups}
 use Rattle.block.proofs.Steps.{bit-small, next-bit, next-back, next-apart}
 use Rattle.block.proofs.Reading.{count-fine, gap-fine}
-use Rattle.block.proofs.Blocks.{step-small}
+use Rattle.block.proofs.Blocks.{block-same, step-small}
 use Rattle.block.proofs.Faults.{faultOf, block-fault}
 
 -- ---- what is written is read back
@@ -204,4 +204,4 @@ writes t buffer =
     record { where-it-fits = λ a l. rw (a, le-leb (length (blockOf t)) (length buffer) l) (refl, refl); or-nothing = writer (blockTests t) (blockOf t) buffer .or-nothing }
 
 pub blocks : Blocks
-blocks = record { one-to-one = one-to-one; reads = reads; writes = writes }
+blocks = record { one-to-one = one-to-one; reads = reads; writes = writes; drops-the-month = block-same }

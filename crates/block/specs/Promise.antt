@@ -1,5 +1,6 @@
 -- Demand 2, of blocks. "Accepted tables and stored blocks match one to one." And what reading and writing a block answers, on every input.
--- `blockOf t` is the block of a table, `firstFault s` the first fault of bytes, `Good t` says that t is accepted.
+-- `blockOf t` is the block of a table, `firstFault s` the first fault of bytes, `Good t` says that t is accepted and that no month is given for it:
+-- the match is of tables without a month, since a block has no place for one.
 -- Assumes nothing.
 use mathlib.Core.Path.{_≡_}
 use mathlib.Core.Logic.{_↔_}
@@ -12,7 +13,7 @@ use Rattle.answer.specs.declared.Refusal.{Refusal}
 use Rattle.answer.specs.Refusals.{number}
 use Rattle.answer.specs.Buffers.{writtenResults}
 use Rattle.leap.specs.declared.Table.{Table}
-use Rattle.leap.specs.Leap.{accepted}
+use Rattle.leap.specs.Leap.{vouchedTo, accepted}
 use Rattle.leap.specs.Entries.{Good}
 use Rattle.leap.specs.Readers.{noTable, tableResults}
 use Rattle.block.specs.Blocks.{blockOf, writeBlock, writeBlockAfter}
@@ -28,7 +29,7 @@ abbrev pub GivesTable : List ℕ → Table → Type 0
 GivesTable s t = tableResults (readBlock s) ≡ (0, 0, t)
 
 pub record OneToOne : Type 0 where
-  -- bytes give a table exactly when the table is accepted and they are its block
+  -- bytes give a table exactly when the table is accepted, has no month and they are its block
   pub gives-the-table-of-the-block : (s : List ℕ) (t : Table) → (Bytes s × GivesTable s t) ↔ (Good t × (blockOf t ≡ s))
   -- so no two tables share a block, and no two blocks give one table
   pub one-table-a-block : (t u : Table) → Good t → Good u → blockOf t ≡ blockOf u → t ≡ u
@@ -53,3 +54,5 @@ pub record Blocks : Type 0 where
   pub one-to-one : OneToOne
   pub reads : (s : List ℕ) → ReadsBlock s
   pub writes : (t : Table) (buffer : List ℕ) → WritesBlock t buffer
+  -- the block of a table for which a month is given is that of the same table without it
+  pub drops-the-month : (v : ℕ) (t : Table) → blockOf (vouchedTo v t) ≡ blockOf t

@@ -217,7 +217,7 @@ fn block_of<'a>(count: usize, months: &'a [u32; 64], offsets: &'a [i32; 64]) -> 
 pub fn write_block(t: Table, out: &mut [u8]) -> Written
     ensures { λ r. ⌜ (r ≡ writeBlock t (now (out .entry))) × (now (out .exit) ≡ writeBlockAfter t (now (out .entry))) ⌝ }
 {
-    if !leap::is_accepted_in(t.count, &t.months, &t.offsets) {
+    if !leap::is_accepted_in(t.count, &t.months, &t.offsets, t.vouched) {
         return Written::Refused(Refusal::Table);
     }
     let block = block_of(t.count, &t.months, &t.offsets);

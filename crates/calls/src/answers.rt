@@ -7,6 +7,7 @@ use crate::calls::STAMP_OF;
 use crate::calls::START;
 use crate::calls::TABLE;
 use crate::calls::TICK;
+use crate::calls::VOUCH;
 use crate::calls::WRITE_JULIAN;
 use crate::calls::WRITE_KERNEL;
 use crate::calls::call_of;
@@ -20,8 +21,10 @@ use crate::stamps::stamp_of;
 use crate::stamps::start;
 use crate::stamps::tick;
 use crate::tables::said_taken;
+use crate::tables::said_vouched;
 use crate::tables::table_after;
 use crate::tables::tell_reading;
+use crate::tables::vouched_after;
 use crate::tell::tell;
 use crate::texts::read_text;
 use crate::writers::tell_writer;
@@ -32,6 +35,7 @@ use leap::Table;
 fn call(k: usize, line: &[u8], c: Cursor, t: Table) -> Said {
     match k {
         TABLE => said_taken(line, c),
+        VOUCH => said_vouched(line, c),
         READ_TEXT => read_text(line, c, t),
         INSTANT_OF => instant_of(line, c, t),
         STAMP_OF => stamp_of(line, c, t),
@@ -57,6 +61,9 @@ fn tell_call(k: usize, line: &[u8], c: Cursor, t: Table, out: &mut [u8], at: usi
 fn next_table(k: usize, line: &[u8], c: Cursor, t: Table) -> Table {
     if k == TABLE {
         return table_after(line, c, t);
+    }
+    if k == VOUCH {
+        return vouched_after(line, c, t);
     }
     t
 }

@@ -23,8 +23,10 @@ pub(crate) const START: usize = 11;
 
 pub(crate) const TICK: usize = 12;
 
-const NAMES: [u8; 169] =
-    *b"read_block   read_kernel  write_text   write_block  write_kernel table        read_text    instant_of   stamp_of     read_julian  write_julian start        tick         ";
+pub(crate) const VOUCH: usize = 13;
+
+const NAMES: [u8; 182] =
+    *b"read_block   read_kernel  write_text   write_block  write_kernel table        read_text    instant_of   stamp_of     read_julian  write_julian start        tick         vouch        ";
 
 // Whether a word stands in the names from index `at` on, before a blank.
 fn is_at(word: &[u8], names: &[u8], at: usize) -> bool {
@@ -33,15 +35,15 @@ fn is_at(word: &[u8], names: &[u8], at: usize) -> bool {
     check::same(word, &names[from..end])
 }
 
-// The number of the call that a word names; 13 for none.
+// The number of the call that a word names; 14 for none.
 pub(crate) fn call_of(word: &[u8]) -> usize {
     let names = NAMES;
     let mut i = 0;
-    while i < 13 {
+    while i < 14 {
         if is_at(word, &names, i * 13) {
             return i;
         }
         i += 1;
     }
-    13
+    14
 }

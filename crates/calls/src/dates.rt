@@ -1,11 +1,13 @@
 // Julian dates.
 use crate::said::Said;
+use crate::said::marks_of;
 use crate::said::refused;
 use crate::said::said_numbers;
 use crate::stamps::said_instant;
 use fields::Cursor;
 use julian::JulianAnswer;
 use julian::JulianDate;
+use julian::MarkedPair;
 use leap::Table;
 
 // A double's bits, as hex digits.
@@ -15,34 +17,38 @@ fn bits(x: f64) -> [u8; 16] {
     text
 }
 
-// The bits of two doubles, each after a blank.
-fn bits_text(d: JulianDate) -> [u8; 34] {
-    let mut text = [32u8; 34];
+// The bits of two doubles and the marks, each after a blank.
+fn bits_text(d: JulianDate, marks: i64) -> [u8; 36] {
+    let mut text = [32u8; 36];
     let first = bits(d.midnight);
     let second = bits(d.fraction);
     digits::append(&mut text, 1, &first);
     digits::append(&mut text, 18, &second);
+    digits::append_signed(&mut text, 35, marks);
     text
 }
 
-// A refusal's number or 0, and a date.
-fn said_date(head: Said, d: JulianDate) -> Said {
+// A refusal's number or 0, a date and its marks.
+fn said_date(head: Said, d: JulianDate, marks: i64) -> Said {
     let mut s = head;
-    let text = bits_text(d);
+    let text = bits_text(d, marks);
     s.tail = text;
-    s.size = 34;
+    s.size = 36;
     s
 }
 
-fn dated(a: JulianAnswer, next: Cursor) -> Said {
+fn dated(m: MarkedPair, next: Cursor) -> Said {
+    let marks = marks_of(m.beyond);
+    let a = m.answer;
     match a {
-        JulianAnswer::Dated(d) => said_date(said_numbers(1, [0; 10], next), d),
+        JulianAnswer::Dated(d) => said_date(said_numbers(1, [0; 11], next), d, marks),
         JulianAnswer::Refused(why) => said_date(
             refused(1, why, next),
             JulianDate {
                 midnight: 0.0,
                 fraction: 0.0,
             },
+            marks,
         ),
     }
 }

@@ -1,13 +1,17 @@
 // Instants, stamps and the clock.
 use crate::said::Said;
+use crate::said::marks_of;
 use crate::said::refused;
 use crate::said::said_numbers;
+use clock::MarkedTick;
 use clock::TickAnswer;
 use fields::Cursor;
 use labels::Label;
 use labels::Reading;
 use leap::Table;
 use stamp::InstantAnswer;
+use stamp::MarkedInstant;
+use stamp::MarkedStamp;
 use stamp::Stamp;
 use stamp::StampAnswer;
 
@@ -35,10 +39,12 @@ fn label_field(line: &[u8], c: Cursor) -> LabelField {
     LabelField { value, next }
 }
 
-pub(crate) fn said_instant(a: InstantAnswer, next: Cursor) -> Said {
+pub(crate) fn said_instant(m: MarkedInstant, next: Cursor) -> Said {
+    let marks = marks_of(m.beyond);
+    let a = m.answer;
     match a {
-        InstantAnswer::At(x) => said_numbers(2, [0, x, 0, 0, 0, 0, 0, 0, 0, 0], next),
-        InstantAnswer::Refused(why) => refused(2, why, next),
+        InstantAnswer::At(x) => said_numbers(3, [0, x, marks, 0, 0, 0, 0, 0, 0, 0, 0], next),
+        InstantAnswer::Refused(why) => refused(3, why, next),
     }
 }
 
@@ -55,8 +61,8 @@ pub(crate) fn instant_of(line: &[u8], c: Cursor, t: Table) -> Said {
     said_instant(stamp::instant_of(t, scale.value, r), micro.next)
 }
 
-// 0, a number, and those of a stamp.
-pub(crate) fn stamp_numbers(first: i64, z: Stamp) -> [i64; 10] {
+// 0, a number, those of a stamp, and its marks.
+pub(crate) fn stamp_numbers(first: i64, z: Stamp, marks: i64) -> [i64; 11] {
     let s = z.scale;
     let n = s.number() as i64;
     let r = z.reading;
@@ -72,20 +78,23 @@ pub(crate) fn stamp_numbers(first: i64, z: Stamp) -> [i64; 10] {
         l.minute as i64,
         l.second as i64,
         r.micro as i64,
+        marks,
     ]
 }
 
 // The numbers from the second on: it is the 0 of no refusal.
-fn said_stamp(z: Stamp, next: Cursor) -> Said {
-    let mut s = said_numbers(10, stamp_numbers(0, z), next);
+fn said_stamp(z: Stamp, marks: i64, next: Cursor) -> Said {
+    let mut s = said_numbers(11, stamp_numbers(0, z, marks), next);
     s.from = 1;
     s
 }
 
-fn stamped(a: StampAnswer, next: Cursor) -> Said {
+fn stamped(m: MarkedStamp, next: Cursor) -> Said {
+    let marks = marks_of(m.beyond);
+    let a = m.answer;
     match a {
-        StampAnswer::Stamped(z) => said_stamp(z, next),
-        StampAnswer::Refused(why) => refused(9, why, next),
+        StampAnswer::Stamped(z) => said_stamp(z, marks, next),
+        StampAnswer::Refused(why) => refused(10, why, next),
     }
 }
 
@@ -96,7 +105,7 @@ pub(crate) fn stamp_of(line: &[u8], c: Cursor, t: Table) -> Said {
     stamped(stamp::stamp_of(t, x.value, scale.value), scale.next)
 }
 
-fn label_numbers(l: Label) -> [i64; 10] {
+fn label_numbers(l: Label, marks: i64) -> [i64; 11] {
     [
         0,
         l.year as i64,
@@ -105,16 +114,19 @@ fn label_numbers(l: Label) -> [i64; 10] {
         l.hour as i64,
         l.minute as i64,
         l.second as i64,
+        marks,
         0,
         0,
         0,
     ]
 }
 
-fn ticked(a: TickAnswer, next: Cursor) -> Said {
+fn ticked(m: MarkedTick, next: Cursor) -> Said {
+    let marks = marks_of(m.beyond);
+    let a = m.answer;
     match a {
-        TickAnswer::Next(l) => said_numbers(7, label_numbers(l), next),
-        TickAnswer::Refused(why) => refused(7, why, next),
+        TickAnswer::Next(l) => said_numbers(8, label_numbers(l, marks), next),
+        TickAnswer::Refused(why) => refused(8, why, next),
     }
 }
 

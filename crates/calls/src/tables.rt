@@ -49,7 +49,7 @@ fn table_field(line: &[u8], c: Cursor) -> TableField {
     let mut months = [0u32; 64];
     let mut offsets = [0i32; 64];
     let next = take_pairs(line, k.next, k.value as usize, &mut months, &mut offsets);
-    let table = leap::tabled(count.value as usize, &months, &offsets);
+    let table = leap::tabled(count.value as usize, &months, &offsets, 0);
     TableField { table, next }
 }
 
@@ -64,6 +64,21 @@ pub(crate) fn table_after(line: &[u8], c: Cursor, t: Table) -> Table {
     let f = table_field(line, c);
     if fields::ended(line, f.next) {
         return f.table;
+    }
+    t
+}
+
+// vouch N
+pub(crate) fn said_vouched(line: &[u8], c: Cursor) -> Said {
+    let number = fields::u32_field(line, c);
+    said_ok(number.next)
+}
+
+// The table after the line `vouch N`.
+pub(crate) fn vouched_after(line: &[u8], c: Cursor, t: Table) -> Table {
+    let number = fields::u32_field(line, c);
+    if fields::ended(line, number.next) {
+        return leap::tabled(t.count, &t.months, &t.offsets, number.value);
     }
     t
 }
@@ -115,12 +130,12 @@ fn places_used<'a>(months: &'a [u32; 64], offsets: &'a [i32; 64]) -> usize {
 }
 
 // The refusal, the place, the count and how many pairs there are.
-fn head_numbers(a: TableAnswer, count: i64, used: i64) -> [i64; 10] {
+fn head_numbers(a: TableAnswer, count: i64, used: i64) -> [i64; 11] {
     match a {
-        TableAnswer::Read => [0, 0, count, used, 0, 0, 0, 0, 0, 0],
+        TableAnswer::Read => [0, 0, count, used, 0, 0, 0, 0, 0, 0, 0],
         TableAnswer::Refused(why, place) => {
             let n = answer::number_of(why) as i64;
-            [n, whole(place), count, used, 0, 0, 0, 0, 0, 0]
+            [n, whole(place), count, used, 0, 0, 0, 0, 0, 0, 0]
         }
     }
 }

@@ -25,7 +25,7 @@ fn numbers(out: &mut [u8], at: usize, all: &[i64], from: usize, to: usize) -> us
 }
 
 // The first n bytes of a text.
-fn tell_text(text: [u8; 34], n: usize, out: &mut [u8], at: usize) -> usize {
+fn tell_text(text: [u8; 36], n: usize, out: &mut [u8], at: usize) -> usize {
     let k = lines::front(&text, n);
     digits::append(out, at, &text[..k])
 }

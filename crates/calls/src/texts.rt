@@ -1,18 +1,22 @@
 // Stamps as text.
 use crate::said::Said;
+use crate::said::marks_of;
 use crate::said::refused;
 use crate::said::said_numbers;
 use crate::stamps::stamp_numbers;
 use fields::Cursor;
 use leap::Table;
+use text::MarkedText;
 use text::TextAnswer;
 
-fn text_said(a: TextAnswer, next: Cursor) -> Said {
+fn text_said(m: MarkedText, next: Cursor) -> Said {
+    let marks = marks_of(m.beyond);
+    let a = m.answer;
     match a {
         TextAnswer::Read { instant, stamp } => {
-            said_numbers(10, stamp_numbers(instant, stamp), next)
+            said_numbers(11, stamp_numbers(instant, stamp, marks), next)
         }
-        TextAnswer::Refused(why) => refused(10, why, next),
+        TextAnswer::Refused(why) => refused(11, why, next),
     }
 }
 

@@ -1,3 +1,4 @@
 pub mod Days
 pub mod Rule
 pub mod Promise
+pub mod Beside

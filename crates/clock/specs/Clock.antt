@@ -37,11 +37,11 @@ next days seconds l =
 abbrev pub tickIn : Table → Label → TickAnswer
 tickIn t l = refusing Refused (labelTests (offsetAt t) 60 (whole l)) (next (monthLength (monthOf l)) (minuteLength (offsetAt t) l) l)
 
--- `tick`
+-- `tick`, without its mark
 unfoldable pub tick : Table → Label → TickAnswer
 tick t l = refusing Refused ((accepted t, TABLE) ∷ []) (tickIn t l)
 
--- `start`
+-- `start`, without its mark
 unfoldable pub start : Table → TickAnswer
 start t = refusing Refused ((accepted t, TABLE) ∷ []) (shown 1972 1 1 0 0 0)
 

@@ -1,2 +1,3 @@
 pub mod Clock
+pub mod Marks
 pub mod Promise

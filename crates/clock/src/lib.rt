@@ -6,10 +6,11 @@ ghost use Prim.Native.Nat.{_+_, _≤_};
 ghost use Rattle.answer.specs.declared.Refusal.the-variants.{NoSecond as NOSECOND};
 ghost use Rattle.answer.specs.Refusals.{refusing};
 ghost use Rattle.months.specs.Months.{monthLength};
-ghost use Rattle.leap.specs.Leap.{tabled, offsetAt};
+ghost use Rattle.leap.specs.Leap.{tabled, vouchedTo, offsetAt};
 ghost use Rattle.labels.specs.declared.Judged.the-variants.{Real};
 ghost use Rattle.labels.specs.Labels.{whole, monthOf, minuteIn, minuteLength, judged, hasSecond};
 ghost use Rattle.clock.specs.Clock.{shown, next, tickIn, start, tick};
+ghost use Rattle.clock.specs.Marks.{markedTick, startMarked, tickMarked};
 use answer::Refusal;
 use labels::Judged;
 use labels::Label;
@@ -21,6 +22,12 @@ use leap::Table;
 pub enum TickAnswer {
     Next(Label),
     Refused(Refusal),
+}
+
+// Beside an answer stands its mark: the label's month lies beyond the one that the table is vouched for.
+pub struct MarkedTick {
+    pub answer: TickAnswer,
+    pub beyond: bool,
 }
 
 fn shown(year: u32, month: u32, day: u32, hour: u32, minute: u32, second: u32) -> TickAnswer
@@ -114,21 +121,63 @@ fn tick_in<'a>(count: usize, months: &'a [u32; 64], offsets: &'a [i32; 64], l: L
     }
 }
 
-pub fn start(t: Table) -> TickAnswer
-    ensures { λ r. ⌜ r ≡ start t ⌝ }
+// The answer of `start`, not yet marked.
+fn started<'a>(
+    count: usize,
+    months: &'a [u32; 64],
+    offsets: &'a [i32; 64],
+    vouched: u32,
+) -> TickAnswer
+    ensures { λ r. ⌜ r ≡ start (vouchedTo vouched (tabled count (now (months .entry)) (now (offsets .entry)))) ⌝ }
 {
-    if !leap::is_accepted_in(t.count, &t.months, &t.offsets) {
+    if !leap::is_accepted_in(count, months, offsets, vouched) {
         return TickAnswer::Refused(Refusal::Table);
     }
     shown(1972, 1, 1, 0, 0, 0)
 }
 
-pub fn tick(t: Table, l: Label) -> TickAnswer
-    ensures { λ r. ⌜ r ≡ tick t l ⌝ }
+// The answer of `tick`, not yet marked.
+fn ticked<'a>(
+    count: usize,
+    months: &'a [u32; 64],
+    offsets: &'a [i32; 64],
+    vouched: u32,
+    l: Label,
+) -> TickAnswer
+    ensures { λ r. ⌜ r ≡ tick (vouchedTo vouched (tabled count (now (months .entry)) (now (offsets .entry)))) l ⌝ }
 {
-    if !leap::is_accepted_in(t.count, &t.months, &t.offsets) {
+    if !leap::is_accepted_in(count, months, offsets, vouched) {
         return TickAnswer::Refused(Refusal::Table);
     }
-    let count = t.count;
-    tick_in(count, &t.months, &t.offsets, l)
+    tick_in(count, months, offsets, l)
+}
+
+// The mark of an answer under a table of this number; a refusal has none.
+fn beyond_tick(vouched: u32, answer: TickAnswer) -> bool
+    ensures { λ r. ⌜ r ≡ markedTick vouched answer .beyond ⌝ }
+{
+    match answer {
+        TickAnswer::Next(l) => leap::beyond(vouched, labels::month_of(l)),
+        TickAnswer::Refused(_) => false,
+    }
+}
+
+pub fn start(t: Table) -> MarkedTick
+    ensures { λ r. ⌜ r ≡ startMarked t ⌝ }
+{
+    let first = started(t.count, &t.months, &t.offsets, t.vouched);
+    MarkedTick {
+        answer: first,
+        beyond: beyond_tick(t.vouched, first),
+    }
+}
+
+pub fn tick(t: Table, l: Label) -> MarkedTick
+    ensures { λ r. ⌜ r ≡ tickMarked t l ⌝ }
+{
+    let after = ticked(t.count, &t.months, &t.offsets, t.vouched, l);
+    MarkedTick {
+        answer: after,
+        beyond: beyond_tick(t.vouched, after),
+    }
 }

@@ -6,6 +6,7 @@ pub mod Halves
 pub mod Years
 pub mod Midnight
 pub mod Dates
+pub mod Marks
 pub mod Refusals
 pub mod Added
 pub mod Promise

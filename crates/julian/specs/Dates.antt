@@ -26,7 +26,7 @@ use Rattle.julian.specs.Midnight.{midnightOf, isMidnight, midnightInYear
 abbrev pub pairOf : ℕ → JulianDate
 pairOf u = record { midnight = midnightOf (u / day); fraction = fractionOf (u % day) }
 
--- `write_julian`; `stampAt` is the way back, which need not be believed
+-- `write_julian`, without its mark; `stampAt` is the way back, which need not be believed
 unfoldable pub writeJulian : Table → ℤ → ℕ → JulianAnswer
 writeJulian t x k = refusing Refused (scaleTests t k ++ (inRange t (scaleOf k) x, RANGE) ∷ []) (Dated (pairOf (microOf (stampAt t (scaleOf k) x .reading))))
 
@@ -45,6 +45,6 @@ pairTests p = (isMidnight (p .midnight), NUMBER) ∷ (isFraction (p .fraction), 
 unfoldable pub microRead : JulianDate → ℕ
 microRead p = day * dayNumber (p .midnight) + microsOf (p .fraction)
 
--- `read_julian`; after rounding, RANGE again and NOSECOND: they are asked of what the scale is to show, by `instantShowing`
+-- `read_julian`, without its mark; after rounding, RANGE again and NOSECOND: they are asked of what the scale is to show, by `instantShowing`
 unfoldable pub readJulian : Table → ℕ → JulianDate → InstantAnswer
 readJulian t k p = refusing NoInstant (scaleTests t k ++ pairTests p) (instantShowing t (scaleOf k) (microRead p))

@@ -1,6 +1,7 @@
 pub mod Fraction
 pub mod Midnight
 pub mod Dates
+pub mod Marks
 pub mod Parts
 pub mod Promise
 pub mod Desk

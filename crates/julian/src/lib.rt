@@ -1,16 +1,18 @@
 // Two-part Julian dates: the pair of doubles that is written for an instant, and the instant that a pair is read as.
 // Between a pair and an instant stands the microsecond that the scale shows, counted from year 0 on days of 86,400 seconds.
 ghost use mathlib.Core.Path.{_≡_};
+ghost use mathlib.Core.Bool.{false};
 ghost use Prim.Native.Nat.{_+_, _/_, _%_, _^_, _≤_};
 ghost use lib.Dec.{T};
-ghost use Rattle.leap.specs.Leap.{tabled};
+ghost use Rattle.leap.specs.Leap.{tabled, vouchedTo};
 ghost use Rattle.julian.specs.Fraction.{day, isFraction, microsOf};
 ghost use Rattle.julian.specs.Midnight.{isMidnight, midnightInYears, dayNumber};
-ghost use Rattle.julian.specs.Dates.{pairOf, writeJulian, readJulian};
-ghost use Rattle.julian.specs.Parts.{readIn};
+ghost use Rattle.julian.specs.Dates.{pairOf};
+ghost use Rattle.julian.specs.Marks.{markedPair, writeJulianMarked, readJulianMarked};
+ghost use Rattle.julian.specs.Parts.{readInMarked};
 use answer::Refusal;
 use leap::Table;
-use stamp::InstantAnswer;
+use stamp::MarkedInstant;
 use stamp::Scale;
 use stamp::ScaleAnswer;
 use stamp::ShownAnswer;
@@ -24,6 +26,12 @@ pub struct JulianDate {
 pub enum JulianAnswer {
     Dated(JulianDate),
     Refused(Refusal),
+}
+
+// Beside the answer stands its mark, as beside those of `stamp`.
+pub struct MarkedPair {
+    pub answer: JulianAnswer,
+    pub beyond: bool,
 }
 
 // The microseconds of a day.
@@ -43,12 +51,26 @@ fn pair_of(u: u64) -> JulianDate
     JulianDate { midnight, fraction }
 }
 
-pub fn write_julian(t: Table, instant: i64, scale: u32) -> JulianAnswer
-    ensures { λ a. ⌜ a ≡ writeJulian t instant scale ⌝ }
+// A refusal has no mark.
+fn refused_pair(why: Refusal) -> MarkedPair
+    ensures { λ r. ⌜ r ≡ markedPair (JulianAnswer.Refused why) false ⌝ }
 {
-    match stamp::shown_of(t.count, &t.months, &t.offsets, instant, scale) {
-        ShownAnswer::Shown(u) => JulianAnswer::Dated(pair_of(u)),
-        ShownAnswer::Refused(why) => JulianAnswer::Refused(why),
+    let answer = JulianAnswer::Refused(why);
+    let beyond = false;
+    MarkedPair { answer, beyond }
+}
+
+pub fn write_julian(t: Table, instant: i64, scale: u32) -> MarkedPair
+    ensures { λ a. ⌜ a ≡ writeJulianMarked t instant scale ⌝ }
+{
+    let marked = stamp::shown_of(t.count, &t.months, &t.offsets, t.vouched, instant, scale);
+    let shown = marked.answer;
+    match shown {
+        ShownAnswer::Shown(u) => MarkedPair {
+            answer: JulianAnswer::Dated(pair_of(u)),
+            beyond: marked.beyond,
+        },
+        ShownAnswer::Refused(why) => refused_pair(why),
     }
 }
 
@@ -143,30 +165,32 @@ fn read_in<'a>(
     count: usize,
     months: &'a [u32; 64],
     offsets: &'a [i32; 64],
+    vouched: u32,
     date: JulianDate,
-) -> InstantAnswer
-    ensures { λ a. ⌜ a ≡ readIn (tabled count (now (months .entry)) (now (offsets .entry))) scale date ⌝ }
+) -> MarkedInstant
+    ensures { λ a. ⌜ a ≡ readInMarked (vouchedTo vouched (tabled count (now (months .entry)) (now (offsets .entry)))) scale date ⌝ }
 {
     if !is_midnight(date.midnight) {
-        return InstantAnswer::Refused(Refusal::Number);
+        return stamp::refused_instant(Refusal::Number);
     }
     if !is_fraction(date.fraction) {
-        return InstantAnswer::Refused(Refusal::Number);
+        return stamp::refused_instant(Refusal::Number);
     }
     if !in_years(date.midnight) {
-        return InstantAnswer::Refused(Refusal::Range);
+        return stamp::refused_instant(Refusal::Range);
     }
     // A fraction that rounds to a whole day makes this the next midnight.
     let u = DAY * day_number(date.midnight) + micros_of(date.fraction);
-    stamp::instant_showing(scale, count, months, offsets, u)
+    stamp::instant_showing(scale, count, months, offsets, vouched, u)
 }
 
-pub fn read_julian(t: Table, scale: u32, date: JulianDate) -> InstantAnswer
-    ensures { λ a. ⌜ a ≡ readJulian t scale date ⌝ }
+pub fn read_julian(t: Table, scale: u32, date: JulianDate) -> MarkedInstant
+    ensures { λ a. ⌜ a ≡ readJulianMarked t scale date ⌝ }
 {
     let count = t.count;
-    match stamp::asked(count, &t.months, &t.offsets, scale) {
-        ScaleAnswer::On(s) => read_in(s, count, &t.months, &t.offsets, date),
-        ScaleAnswer::Refused(why) => InstantAnswer::Refused(why),
+    let vouched = t.vouched;
+    match stamp::asked(count, &t.months, &t.offsets, vouched, scale) {
+        ScaleAnswer::On(s) => read_in(s, count, &t.months, &t.offsets, vouched, date),
+        ScaleAnswer::Refused(why) => stamp::refused_instant(why),
     }
 }

@@ -35,6 +35,7 @@ use Rattle.kernel.specs.Reading.{judged, placeOf, ended, readKernel}
 use Rattle.kernel.specs.Writing.{kernelOf, kernelTests}
 use Rattle.kernel.specs.Promise.{GivesTable, Refuses, Fault, Case, a-kernel, a-fault, too-long, unfinished, caseNumber, ReadsKernel, WritesKernel, Kernels}
 use Rattle.kernel.proofs.Written as Written
+use Rattle.kernel.proofs.Storing.{kernel-same}
 use Rattle.kernel.proofs.Sizes.{sizes}
 use Rattle.kernel.proofs.Judging.{kept-judged, good-read}
 
@@ -181,7 +182,7 @@ accepted-good : (es : List Entry) → accepted (tableOf es) ≡ true → Good (t
 unfolding tableOf
 accepted-good es a =
     let long = holds-long {es = es} (record { months-are = refl; offsets-are = refl }) (count-to (tableOf es) a .1) in
-    record { is-accepted = a; months-long = long .0; offsets-long = long .1 }
+    record { is-accepted = a; no-month = refl; months-long = long .0; offsets-long = long .1 }
 
 -- a kernel's table, accepted or not
 module _ (s : List ℕ) (es : List Entry) (e : readKernel s ≡ judged (tableOf es)) where
@@ -243,4 +244,4 @@ writes t buffer =
     record { where-it-fits = λ a l. rw (a, le-leb (length (kernelOf t)) (length buffer) l) (refl, refl); or-nothing = writer (kernelTests t) (kernelOf t) buffer .or-nothing }
 
 pub kernels : Kernels
-kernels = record { reads-back = reads-back; reads = reads; writes = writes; sizes = λ t g. sizes (accepted-to t (g .is-accepted)) }
+kernels = record { reads-back = reads-back; reads = reads; writes = writes; sizes = λ t a. sizes (accepted-to t a); drops-the-month = kernel-same }

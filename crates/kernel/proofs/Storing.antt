@@ -9,8 +9,10 @@ use lib.ListN.{length, take, drop, replicate, length-append}
 use lib.Seq.{take-at}
 use lib.Signed.{mag}
 use Rattle.leap.specs.declared.Table.{Table}
+use Rattle.leap.specs.Leap.{vouchedTo}
 use Rattle.leap.specs.Entries.{entry, entriesFrom}
 use Rattle.leap.proofs.Facts.{Accepted}
+use Rattle.leap.proofs.Entries.{entries-same}
 use Rattle.digits.specs.Bytes.{ascii, Appended, Placed}
 use Rattle.digits.specs.Decimals.{digitsOf, signedText}
 use Rattle.digits.specs.Months.{monthName}
@@ -43,6 +45,11 @@ pub pair-short : (month : ℕ) (z : ℤ) → mag z < 99 → length (pairText (mo
 pair-short month z h = omega (arith, length-append (signedText z) (ascii ", " ++ dateText month), signed-short z h)
 
 -- ---- the whole
+
+-- the month that a table is vouched for is not in its kernel
+pub kernel-same : (v : ℕ) (t : Table) → kernelOf (vouchedTo v t) ≡ kernelOf t
+unfolding kernelOf
+kernel-same v t = ap (λ es. front ++ (pairsText es ++ back)) (entries-same v t)
 
 abbrev zeros : List ℕ
 zeros = replicate 2392 0

@@ -1,6 +1,6 @@
 -- What reading and writing a kernel answers, on every input, by the grammar alone.
 -- `Kernel es s`: s is a kernel with the pairs es; `GoesOn s`: some kernel begins with s; `Place x b p`: where the fault is placed that the byte b behind x makes
--- certain; `Good t`: t is accepted.
+-- certain; `Good t`: t is accepted and no month is given for it. What reads back is said of tables without a month, since a kernel has no place for one.
 -- Assumes nothing.
 use mathlib.Core.Path.{_≡_}
 use mathlib.Core.Logic.{_↔_}
@@ -11,7 +11,7 @@ use lib.ListN.{length, take}
 use Rattle.laws.specs.Placed.{over}
 use Rattle.answer.specs.Buffers.{writtenResults}
 use Rattle.leap.specs.declared.Table.{Table}
-use Rattle.leap.specs.Leap.{accepted}
+use Rattle.leap.specs.Leap.{vouchedTo, accepted}
 use Rattle.leap.specs.Entries.{Entry, tableOf, Good}
 use Rattle.leap.specs.Readers.{noTable, tableResults}
 use Rattle.grammar.specs.Grammar.{Kernel}
@@ -72,5 +72,7 @@ pub record Kernels : Type 0 where
   -- what is written reads back as the table
   pub reads-back : (t : Table) → Good t → GivesTable (kernelOf t) t
   pub reads : (s : List ℕ) → ReadsKernel s
-  pub sizes : (t : Table) → Good t → (60 ≤ length (kernelOf t)) × (length (kernelOf t) ≤ 2362)
+  pub sizes : (t : Table) → accepted t ≡ true → (60 ≤ length (kernelOf t)) × (length (kernelOf t) ≤ 2362)
   pub writes : (t : Table) (buffer : List ℕ) → WritesKernel t buffer
+  -- the kernel of a table for which a month is given is that of the same table without it
+  pub drops-the-month : (v : ℕ) (t : Table) → kernelOf (vouchedTo v t) ≡ kernelOf t

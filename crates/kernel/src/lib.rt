@@ -103,7 +103,7 @@ fn place_of(n: usize, mode: Mode) -> usize
 fn judge<'a>(count: usize, months: &'a [u32; 64], offsets: &'a [i32; 64]) -> TableRead
     ensures { λ r. ⌜ r ≡ judged (tabled count (now (months .entry)) (now (offsets .entry))) ⌝ }
 {
-    if leap::is_accepted_in(count, months, offsets) {
+    if leap::is_accepted_in(count, months, offsets, 0) {
         return leap::found(count, months, offsets);
     }
     leap::refused_at(Refusal::Table, 0)
@@ -213,7 +213,7 @@ fn kernel_of<'a>(count: usize, months: &'a [u32; 64], offsets: &'a [i32; 64]) ->
 pub fn write_kernel(t: Table, out: &mut [u8]) -> Written
     ensures { λ r. ⌜ (r ≡ writeKernel t (now (out .entry))) × (now (out .exit) ≡ writeKernelAfter t (now (out .entry))) ⌝ }
 {
-    if !leap::is_accepted_in(t.count, &t.months, &t.offsets) {
+    if !leap::is_accepted_in(t.count, &t.months, &t.offsets, t.vouched) {
         return Written::Refused(Refusal::Table);
     }
     let kernel = kernel_of(t.count, &t.months, &t.offsets);

@@ -1,4 +1,4 @@
--- What the tests of a reading say, as facts about numbers.
+-- What the tests of a reading say, as facts about numbers; and the month of a place's label.
 -- Assumes nothing.
 use mathlib.Core.Path.{_≡_}
 use mathlib.Core.Bool.{true, false}
@@ -9,6 +9,8 @@ use Rattle.months.specs.Months.{monthLength}
 use Rattle.laws.proofs.Cases.{and-l, and-r}
 use Rattle.labels.specs.declared.Label.{Label}
 use Rattle.labels.specs.declared.Reading.{Reading}
+use Rattle.labels.specs.declared.Place.{Place}
+use Rattle.labels.specs.Back.{inDay, labelOf}
 use Rattle.labels.specs.Labels.{Offsets, monthOf, minuteLength, realYear, realMonth, realDay, realClock, hasSecond}
 
 pub year-to : (l : Label) → realYear l ≡ true → (1972 ≤ l .year) × (l .year ≤ 9999)
@@ -45,3 +47,8 @@ second-no o l e h = le-ltb (l .second) (minuteLength o l) (omega arith)
 pub second-yes : (o : Offsets) (l : Label) {n : ℕ} → n ≡ minuteLength o l → l .second < n → hasSecond o l ≡ true
 unfolding hasSecond
 second-yes o l e h = lt-ltb (l .second) (minuteLength o l) (omega arith)
+
+-- the label of a second of a month has that month
+pub place-month : (p : Place) → monthOf (labelOf p) ≡ p .month
+unfolding labelOf inDay
+place-month p = omega arith

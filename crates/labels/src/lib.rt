@@ -2,7 +2,7 @@
 // No table and no scale is known here: what they say of a month and of the next comes in as two offsets.
 ghost use mathlib.Core.Path.{_≡_};
 ghost use Prim.Native.Nat.{_-_, _/_, _≤_, min};
-ghost use Rattle.labels.specs.Labels.{realYear, realMonth, dayIn, realClock, judged, lastMinute, inLastMinute, minuteIn};
+ghost use Rattle.labels.specs.Labels.{monthOf, realYear, realMonth, dayIn, realClock, judged, lastMinute, inLastMinute, minuteIn};
 ghost use Rattle.labels.specs.Back.{minuteOf, inDay, labelOf};
 use answer::Refusal;
 
@@ -39,6 +39,17 @@ pub struct Place {
     pub start: u64,
     pub days: u32,
     pub second: u32,
+}
+
+// The label's month, counted from January of year 0; month 0, which no year has, counts as its first.
+pub fn month_of(l: Label) -> u64
+    ensures { λ r. ⌜ r ≡ monthOf l ⌝ }
+{
+    let first = 12 * l.year as u64;
+    if l.month == 0 {
+        return first;
+    }
+    first + (l.month - 1) as u64
 }
 
 // ---- which labels exist

@@ -42,6 +42,14 @@ abbrev pub LeavesTwo : {K A E R U W : Type 0} → (K → A → Type 0) → (K �
 LeavesTwo {K} {R = R} {U} {W} pre post arguments after outcome =
     (lifetimes : K) → Settles (pre lifetimes arguments) (λ (o : R × U × W). post lifetimes arguments (o .0) (after (o .1) (o .2))) outcome
 
--- a number and a length, and bytes beside them
+-- and to three
+abbrev pub LeavesThree : {K A E R T U W : Type 0} → (K → A → Type 0) → (K → A → R → E → Type 0) → A → (T → U → W → E) → R × T × U × W → Type 0
+LeavesThree {K} {R = R} {T} {U} {W} pre post arguments after outcome =
+    (lifetimes : K) → Settles (pre lifetimes arguments) (λ (o : R × T × U × W). post lifetimes arguments (o .0) (after (o .1) (o .2) (o .3))) outcome
+
+-- values, and one more beside them
 abbrev pub also : {A B C : Type 0} → A × B → C → A × B × C
 also p c = (p .0, p .1, c)
+
+abbrev pub alsoThree : {A B C D : Type 0} → A × B × C → D → A × B × C × D
+alsoThree p d = (p .0, p .1, p .2, d)

@@ -11,9 +11,10 @@ use lib.Seq.{set-at, getD-append-add, ext-getD, append-snoc}
 use Rattle.laws.proofs.Cases.{by-order}
 use Rattle.laws.proofs.Placed.{replicate-same}
 use Rattle.leap.specs.declared.Table.{Table}
-use Rattle.leap.specs.Leap.{tabled, padded}
+use Rattle.leap.specs.Leap.{tabled, vouchedTo, padded}
 use Rattle.leap.specs.Entries.{Entry, firstEntry, noEntry, entry, entriesFrom, entries, tableOf, Good}
 use Rattle.leap.proofs.Facts.{Later, Accepted, same-entry, accepted-to, accepted-from}
+use Rattle.leap.proofs.Vouched.{none-right}
 
 -- ---- the places of a list
 
@@ -67,7 +68,7 @@ module _ {months : List ℕ} {offsets : List ℤ} {es : List Entry} (h : Holds m
 
   pub holds-table : {n : ℕ} → length es ≡ n → tabled n months offsets ≡ tableOf es
   unfolding tableOf
-  holds-table n = let m = h .months-are in let o = h .offsets-are in λ i. record { count = sym n i; months = m i; offsets = o i }
+  holds-table n = let m = h .months-are in let o = h .offsets-are in λ i. record { count = sym n i; months = m i; offsets = o i; vouched = 0 }
 
   pub holds-long : length es ≤ 64 → (length months ≡ 64) × (length offsets ≡ 64)
   holds-long l = (ap length (h .months-are) ∙ parts-long month noEntry es l, ap length (h .offsets-are) ∙ parts-long offset noEntry es l)
@@ -97,6 +98,15 @@ entries-long t = from-long t 0 (t .count)
 
 pub entries-at : (t : Table) (k : ℕ) → k < t .count → getD (entries t) k noEntry ≡ entry t k
 entries-at t k l = let e : 0 + k ≡ k = omega arith in from-at t 0 (t .count) k l ∙ ap (entry t) e
+
+-- the month that it is vouched for is in none of them
+pub entries-same : (v : ℕ) (t : Table) → entries (vouchedTo v t) ≡ entries t
+unfolding entriesFrom
+entries-same v t = from-same 0 (t .count)
+  where
+    from-same : (k n : ℕ) → entriesFrom (vouchedTo v t) k n ≡ entriesFrom t k n
+    from-same k zero = refl
+    from-same k (suc n) = ap (_∷_ (entry t k)) (from-same (k + 1) n)
 
 -- the entries of the table of a list are the list
 pub entries-of : (es : List Entry) → entries (tableOf es) ≡ es
@@ -147,7 +157,7 @@ table-is {t} g =
     let same : (k : ℕ) → k < 64 → entry (tableOf es) k ≡ entry t k = λ k l. entry-of es k ∙ places-at a k l in
     let m = ext-getD 0 (tableOf es .months) (t .months) (long .0 ∙ sym (g .months-long)) (λ k l. ap (λ e. e .0) (same k (omega arith))) in
     let o = ext-getD (pos 0) (tableOf es .offsets) (t .offsets) (long .1 ∙ sym (g .offsets-long)) (λ k l. ap (λ e. e .1) (same k (omega arith))) in
-    sym (holds-table (record { months-are = sym m ∙ holds-of es .months-are; offsets-are = sym o ∙ holds-of es .offsets-are }) n)
+    sym (holds-table (record { months-are = sym m ∙ holds-of es .months-are; offsets-are = sym o ∙ holds-of es .offsets-are }) n) ∙ ap (λ v. vouchedTo v t) (sym (g .no-month))
 
 -- what may come after the first entry makes an accepted table
 pub accepted-of : (es : List Entry) → length es < 64 → Follow firstEntry es → Good (tableOf (firstEntry ∷ es))
@@ -165,7 +175,9 @@ accepted-of es l h =
         first = at 0;
         later = next;
         unused = λ k m n. unused k m;
+        month-right = sym (none-right _ (omega arith));
       });
+      no-month = refl;
       months-long = long .0;
       offsets-long = long .1;
     }

@@ -3,17 +3,17 @@
 use mathlib.Core.Path.{_≡_, sym, ap, ap₂, subst, _∙_}
 use mathlib.Core.Logic.{_⊎_, inl, inr, ⊎-map}
 use mathlib.Core.Bool.{true, _&&_}
-use Prim.Native.Nat.{ℕ, zero, suc, _+_, _≤_, _<_}
+use Prim.Native.Nat.{ℕ, zero, suc, _+_, _-_, _≤_, _<_}
 use native.Mathlib.Numerals.{add-one}
 use native.Mathlib.Omega.{arith}
 use borrow.Author.Tests.{leb-true, ltb-true, eqb-true, lt-ltb, le-leb, eq-eqb}
 use lib.Dec.{leb, ltb, eqb}
 use lib.IntN.{ℤ, sucℤ}
-use Rattle.laws.specs.Tests.{eqZ}
-use Rattle.laws.proofs.Cases.{and-l, and-r, one-of, or-l, or-r, join, below, all-below, by-order}
+use Rattle.laws.specs.Tests.{eqZ, allBelow}
+use Rattle.laws.proofs.Cases.{both, and-l, and-r, one-of, or-l, or-r, join, below, all-below, by-order}
 use Rattle.laws.proofs.Machine.{eqZ-true, eqZ-eq}
 use Rattle.leap.specs.declared.Table.{Table}
-use Rattle.leap.specs.Leap.{lastEntryMonth, oneApart, laterRight, placeRight, accepted}
+use Rattle.leap.specs.Leap.{lastEntryMonth, entryMonth, oneApart, laterRight, placeRight, vouchedRight, accepted}
 use Rattle.leap.specs.Entries.{Entry, firstEntry, noEntry, entry}
 use Rattle.leap.proofs.Places.{later-is, unused-is}
 
@@ -29,6 +29,7 @@ pub record Accepted (t : Table) : Type 0 where
   pub first : entry t 0 ≡ firstEntry
   pub later : (k : ℕ) → k + 1 < t .count → Later (entry t k) (entry t (k + 1))
   pub unused : (k : ℕ) → t .count ≤ k → k < 64 → entry t k ≡ noEntry
+  pub month-right : vouchedRight (entryMonth t (t .count - 1)) (t .vouched) ≡ true
 
 -- ---- a place, its month m and its offset o
 
@@ -68,17 +69,20 @@ module _ (t : Table) where
   pub accepted-to : accepted t ≡ true → Accepted t
   unfolding accepted placeRight
   accepted-to e =
-      record { some-entry = counted .0; few = counted .1; first = zero-to _ _ _ (right 0 (omega arith)); later = λ k h. later-to _ _ _ _ (later-is t k h ∙ right (k + 1) (omega (arith, counted))); unused = λ k h l. zero-to _ _ _ (unused-is t k (omega (arith, counted)) h ∙ right k l) }
+      record { some-entry = counted .0; few = counted .1; first = zero-to _ _ _ (right 0 (omega arith)); later = λ k h. later-to _ _ _ _ (later-is t k h ∙ right (k + 1) (omega (arith, counted))); unused = λ k h l. zero-to _ _ _ (unused-is t k (omega (arith, counted)) h ∙ right k l); month-right = places .1 }
     where
       counted : (1 ≤ t .count) × (t .count ≤ 64)
       counted = count-to e
 
+      places : (allBelow (placeRight t) 64 ≡ true) × (vouchedRight (entryMonth t (t .count - 1)) (t .vouched) ≡ true)
+      places = both _ _ (and-r (leb (t .count) 64) _ (and-r (leb 1 (t .count)) _ e))
+
       right : (k : ℕ) → k < 64 → placeRight t k ≡ true
-      right = below (placeRight t) 64 (search (and-r))
+      right = below (placeRight t) 64 (places .0)
 
   pub accepted-from : Accepted t → accepted t ≡ true
   unfolding accepted placeRight
-  accepted-from a = join (le-leb _ _ (a .some-entry)) (join (le-leb _ _ (a .few)) (all-below (placeRight t) 64 right))
+  accepted-from a = join (le-leb _ _ (a .some-entry)) (join (le-leb _ _ (a .few)) (join (all-below (placeRight t) 64 right) (a .month-right)))
     where
       right : (k : ℕ) → k < 64 → placeRight t k ≡ true
       right zero l = zero-from (a .first)

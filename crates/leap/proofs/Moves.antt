@@ -10,7 +10,7 @@ use Rattle.laws.proofs.Difference.{up, down, eq-to, suc-is}
 use Rattle.laws.proofs.Machine.{one-side}
 use Rattle.laws.proofs.Offsets.{Beside, Steps}
 use Rattle.leap.specs.declared.Table.{Table}
-use Rattle.leap.specs.Leap.{lastEntryMonth, entryOffset, epoch, lastBegun, top, offsetAt}
+use Rattle.leap.specs.Leap.{lastEntryMonth, entryOffset, epoch, lastBegun, top, offsetIn, offsetAt}
 use Rattle.leap.proofs.Facts.{Accepted}
 use Rattle.leap.proofs.Begun.{begun-le}
 use Rattle.leap.proofs.Steps.{top-is, offset-is, at-entry, entry-or-rest}
@@ -57,7 +57,7 @@ module _ (t : Table) (acc : Accepted t) where
       omega (arith, one-side (entryOffset t (suc k)))
 
   pub small : (m : ℕ) → (up (offsetAt t m) ≤ 73) × (down (offsetAt t m) ≤ 63)
-  unfolding offsetAt
+  unfolding offsetIn
   small m =
       let k : ℕ = lastBegun (t .months) m (top (t .count)) in
       let b = begun-le (t .months) m (top (t .count)) in

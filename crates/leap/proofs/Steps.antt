@@ -9,7 +9,7 @@ use lib.IntN.{ℤ, sucℤ}
 use Rattle.laws.proofs.Cases.{by-order, lt-cases}
 use Rattle.laws.proofs.Difference.{eq-to, suc-is}
 use Rattle.leap.specs.declared.Table.{Table}
-use Rattle.leap.specs.Leap.{lastEntryMonth, entryMonth, entryOffset, epoch, lastBegun, top, offsetAt}
+use Rattle.leap.specs.Leap.{lastEntryMonth, entryMonth, entryOffset, epoch, lastBegun, top, offsetIn, offsetAt}
 use Rattle.leap.specs.Entries.{entry}
 use Rattle.leap.specs.Steps.{EntryAfter, MovesWithEntries, AllMove}
 use Rattle.leap.proofs.Facts.{Later, Accepted, accepted-to}
@@ -66,7 +66,7 @@ module _ (t : Table) (acc : Accepted t) where
 
   -- the offset in a month whose last entry that has begun is entry k
   pub offset-is : (m k : ℕ) → Last m (top (t .count)) k → offsetAt t m ≡ entryOffset t k
-  unfolding offsetAt
+  unfolding offsetIn
   offset-is m k a =
       let l : top (t .count) < t .count = omega (arith, top-is) in
       ap (entryOffset t) (one-last m (top (t .count)) (lastBegun (t .months) m (top (t .count))) k l (begun-last m (top (t .count)) (lastBegun (t .months) m (top (t .count))) l refl) a)

@@ -36,8 +36,9 @@ entries t = entriesFrom t 0 (t .count)
 unfoldable pub tableOf : List Entry → Table
 tableOf es = tabled (length es) (padded 0 (map (λ e. e .0) es)) (padded (pos 0) (map (λ e. e .1) es))
 
--- an accepted table, with 64 places for months and for offsets as every table of a program has them
+-- an accepted table for which no month is given, with 64 places for months and for offsets as every table of a program has them
 pub record Good (t : Table) : Type 0 where
   pub is-accepted : accepted t ≡ true
+  pub no-month : t .vouched ≡ 0
   pub months-long : length (t .months) ≡ 64
   pub offsets-long : length (t .offsets) ≡ 64

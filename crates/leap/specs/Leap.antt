@@ -1,6 +1,6 @@
 -- The leap table: which tables are accepted, TAI-UTC by months, and the table of Bulletin C.
 -- Assumes nothing.
-use mathlib.Core.Bool.{Bool, cond, _&&_, _||_}
+use mathlib.Core.Bool.{Bool, cond, not, _&&_, _||_}
 use mathlib.Core.List.{List, [], _∷_, _++_}
 use Prim.Native.Nat.{ℕ, zero, suc, _+_, _-_, _*_, min}
 use lib.Dec.{leb, ltb, eqb}
@@ -10,9 +10,16 @@ use Rattle.laws.specs.Tests.{eqZ, allBelow}
 use Rattle.leap.specs.declared.Table.{Table}
 use Rattle.leap.specs.declared.OffsetPair.{OffsetPair}
 
--- a table of n entries in these months with these offsets
+-- a table of n entries in these months with these offsets, no month given
 abbrev pub tabled : ℕ → List ℕ → List ℤ → Table
-tabled n ms os = record { count = n; months = ms; offsets = os }
+tabled n ms os = record { count = n; months = ms; offsets = os; vouched = 0 }
+
+-- the same entries, vouched for up to the month of this number
+abbrev pub vouchedTo : ℕ → Table → Table
+vouchedTo v t = record { count = t .count; months = t .months; offsets = t .offsets; vouched = v }
+
+abbrev pub withoutMonth : Table → Table
+withoutMonth t = vouchedTo 0 t
 
 -- ---- an accepted table
 
@@ -52,9 +59,22 @@ placeRight t (suc k) =
     (laterRight (entryMonth t k) (entryOffset t k) (entryMonth t (suc k)) (entryOffset t (suc k)))
     (unusedRight (entryMonth t (suc k)) (entryOffset t (suc k)))
 
--- 1 to 64 entries, and each of the 64 places is right
+-- The last month that a table is vouched for has a number: the month plus one, and 0 where none is given.
+abbrev pub isGiven : ℕ → Bool
+isGiven v = ltb 0 v
+
+abbrev pub vouchedMonth : ℕ → ℕ
+vouchedMonth v = v - 1
+
+-- none is given, or a month from the last entry's to December 9999
+unfoldable pub vouchedRight : ℕ → ℕ → Bool
+vouchedRight last v = not (isGiven v) || (leb last (vouchedMonth v) && leb (vouchedMonth v) lastEntryMonth)
+
+-- 1 to 64 entries, each of the 64 places is right, and so is the month that it is vouched for
 unfoldable pub accepted : Table → Bool
-accepted t = leb 1 (t .count) && (leb (t .count) 64 && allBelow (placeRight t) 64)
+accepted t =
+    leb 1 (t .count)
+    && (leb (t .count) 64 && (allBelow (placeRight t) 64 && vouchedRight (entryMonth t (t .count - 1)) (t .vouched)))
 
 -- ---- TAI-UTC
 
@@ -71,13 +91,23 @@ lastBegun months m (suc k) = cond (leb (epoch + getD months (suc k) 0) m) (suc k
 abbrev pub top : ℕ → ℕ
 top n = min n 64 - 1
 
--- TAI-UTC in the calendar's month m: that of the last entry that has begun
-unfoldable pub offsetAt : Table → ℕ → ℤ
-offsetAt t m = entryOffset t (lastBegun (t .months) m (top (t .count)))
+-- TAI-UTC in the calendar's month m by these entries: that of the last that has begun
+unfoldable pub offsetIn : ℕ → List ℕ → List ℤ → ℕ → ℤ
+offsetIn n months offsets m = getD offsets (lastBegun months m (top n)) (pos 0)
+
+-- by a table; the month that it is vouched for does not count
+abbrev pub offsetAt : Table → ℕ → ℤ
+offsetAt t = offsetIn (t .count) (t .months) (t .offsets)
 
 -- TAI-UTC in the calendar's month m and in the one after it
 abbrev pub nearAt : Table → ℕ → OffsetPair
 nearAt t m = record { here = offsetAt t m; next = offsetAt t (m + 1) }
+
+-- ---- beyond
+
+-- a month is given, number v, and the calendar's month m is later
+unfoldable pub beyond : ℕ → ℕ → Bool
+beyond v m = isGiven v && ltb (epoch + vouchedMonth v) m
 
 -- ---- Bulletin C
 

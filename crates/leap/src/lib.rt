@@ -9,13 +9,15 @@ ghost use lib.IntN.{sucℤ};
 ghost use lib.Dec.{leb};
 ghost use Rattle.laws.specs.Tests.{eqZ, allBelow};
 ghost use Rattle.leap.specs.Readers.{found, refusedAt};
-ghost use Rattle.leap.specs.Leap.{tabled, oneApart, firstRight, laterRight, unusedRight, placeRight, accepted, epoch, lastBegun, offsetAt, nearAt, top, bulletinC};
+ghost use Rattle.leap.specs.Leap.{tabled, vouchedTo, oneApart, firstRight, laterRight, unusedRight, placeRight, vouchedRight, accepted, epoch, lastBegun, offsetAt, nearAt, top, beyond, bulletinC};
 
 // `count` entries, each a month (January 1972 is 0) and TAI-UTC in seconds from its first day. Unused places are zero.
+// `vouched` is the last month that the table is good for, plus one; 0 where none is given.
 pub struct Table {
     pub count: usize,
     pub months: [u32; 64],
     pub offsets: [i32; 64],
+    pub vouched: u32,
 }
 
 // January 1972, the table's month 0, among the calendar's months from January of year 0.
@@ -24,8 +26,13 @@ pub const EPOCH: u32 = 23664;
 // December 9999 in the table's months.
 pub const LAST_ENTRY_MONTH: u32 = 96335;
 
-pub fn tabled<'a>(count: usize, months: &'a [u32; 64], offsets: &'a [i32; 64]) -> Table
-    ensures { λ r. ⌜ r ≡ tabled count (now (months .entry)) (now (offsets .entry)) ⌝ }
+pub fn tabled<'a>(
+    count: usize,
+    months: &'a [u32; 64],
+    offsets: &'a [i32; 64],
+    vouched: u32,
+) -> Table
+    ensures { λ r. ⌜ r ≡ vouchedTo vouched (tabled count (now (months .entry)) (now (offsets .entry))) ⌝ }
 {
     let m = *months;
     let o = *offsets;
@@ -33,6 +40,7 @@ pub fn tabled<'a>(count: usize, months: &'a [u32; 64], offsets: &'a [i32; 64]) -
         count,
         months: m,
         offsets: o,
+        vouched,
     }
 }
 
@@ -53,7 +61,7 @@ pub fn found<'a>(count: usize, months: &'a [u32; 64], offsets: &'a [i32; 64]) ->
     ensures { λ r. ⌜ r ≡ found (tabled count (now (months .entry)) (now (offsets .entry))) ⌝ }
 {
     let answer = TableAnswer::Read;
-    let table = tabled(count, months, offsets);
+    let table = tabled(count, months, offsets, 0);
     TableRead { answer, table }
 }
 
@@ -65,6 +73,7 @@ pub fn refused_at(why: Refusal, at: usize) -> TableRead
         count: 0,
         months: [0; 64],
         offsets: [0; 64],
+        vouched: 0,
     };
     TableRead { answer, table }
 }
@@ -134,9 +143,27 @@ fn all_right<'a>(count: usize, months: &'a [u32; 64], offsets: &'a [i32; 64]) ->
     ok
 }
 
+// A month number as a table has it, where the last entry's month is `last`.
+fn vouched_right(last: u32, vouched: u32) -> bool
+    ensures { λ r. ⌜ r ≡ vouchedRight last vouched ⌝ }
+{
+    if vouched < 1 {
+        return true;
+    }
+    if vouched <= last {
+        return false;
+    }
+    vouched <= LAST_ENTRY_MONTH + 1
+}
+
 // The check. The arrays are lent: a table by value is copied.
-pub fn is_accepted_in<'a>(count: usize, months: &'a [u32; 64], offsets: &'a [i32; 64]) -> bool
-    ensures { λ r. ⌜ r ≡ accepted (tabled count (now (months .entry)) (now (offsets .entry))) ⌝ }
+pub fn is_accepted_in<'a>(
+    count: usize,
+    months: &'a [u32; 64],
+    offsets: &'a [i32; 64],
+    vouched: u32,
+) -> bool
+    ensures { λ r. ⌜ r ≡ accepted (vouchedTo vouched (tabled count (now (months .entry)) (now (offsets .entry)))) ⌝ }
 {
     if count < 1 {
         return false;
@@ -144,7 +171,10 @@ pub fn is_accepted_in<'a>(count: usize, months: &'a [u32; 64], offsets: &'a [i32
     if 64 < count {
         return false;
     }
-    all_right(count, months, offsets)
+    if !all_right(count, months, offsets) {
+        return false;
+    }
+    vouched_right(months[count - 1], vouched)
 }
 
 // ---- TAI-UTC
@@ -209,6 +239,18 @@ pub fn near<'a>(count: usize, months: &'a [u32; 64], offsets: &'a [i32; 64], m: 
     }
 }
 
+// ---- beyond
+
+// The calendar's month m is later than the month that a table is vouched for, if one is given.
+pub fn beyond(vouched: u32, m: u64) -> bool
+    ensures { λ r. ⌜ r ≡ beyond vouched m ⌝ }
+{
+    if vouched < 1 {
+        return false;
+    }
+    EPOCH as u64 + vouched as u64 <= m
+}
+
 // ---- Bulletin C
 
 pub fn bulletin_c() -> Table
@@ -218,5 +260,6 @@ pub fn bulletin_c() -> Table
         count: 28,
         months: bulletin::MONTHS,
         offsets: bulletin::OFFSETS,
+        vouched: 0,
     }
 }

@@ -91,7 +91,7 @@ fn block_line(line: &[u8]) -> TableRead
     block::read_block(&bytes[..k])
 }
 
-// The second line: a UTC stamp without fraction.
+// The second line: a UTC stamp without fraction. A block's table is vouched for up to no month, so no answer has a mark.
 fn stamp_line(t: Table, line: &[u8]) -> TextAnswer
     ensures { λ r. ⌜ r ≡ stampLine t (now (line .entry)) ⌝ }
 {
@@ -101,7 +101,7 @@ fn stamp_line(t: Table, line: &[u8]) -> TextAnswer
     if lines::until(line, 0, 46) != line.len() {
         return TextAnswer::Refused(Refusal::Shape);
     }
-    text::read_text(t, 0, line)
+    text::read_text(t, 0, line).answer
 }
 
 // The third line: a count up to 3600.
@@ -132,7 +132,7 @@ fn put_row(t: Table, l: Label, out: &mut [u8], at: usize) -> usize
     requires { ⌜ (accepted t ≡ true) × (admits t l ≡ true) × (at + 42 ≤ length (now out)) ⌝ }
     ensures { λ r. ⌜ Placed (now (out .entry)) at (rowText t l) r (now (out .exit)) × (r ≤ at + 42) ⌝ }
 {
-    let a = stamp::instant_of(t, 0, Reading { label: l, micro: 0 });
+    let a = stamp::instant_of(t, 0, Reading { label: l, micro: 0 }).answer;
     let InstantAnswer::At(instant) = a else {
         return at;
     };
@@ -155,7 +155,7 @@ fn put_rows(t: Table, first: Label, count: usize, out: &mut [u8], from: usize) -
     while left > 0 {
         at = put_row(t, l, out, at);
         left -= 1;
-        let a = clock::tick(t, l);
+        let a = clock::tick(t, l).answer;
         let TickAnswer::Next(next) = a else {
             return at;
         };

@@ -4,28 +4,34 @@ ghost use mathlib.Core.Path.{_≡_};
 ghost use Rattle.answer.specs.Buffers.{writtenResults};
 ghost use Rattle.leap.specs.Leap.{bulletinC};
 ghost use Rattle.labels.specs.Labels.{fields};
-ghost use Rattle.stamp.specs.Stamps.{instantOf, instantResults, stampOf};
-ghost use Rattle.clock.specs.Clock.{start, tick};
+ghost use Rattle.stamp.specs.Marks.{instantOfMarked, stampOfMarked};
+ghost use Rattle.clock.specs.Marks.{startMarked, tickMarked};
 ghost use Rattle.block.specs.Reading.{readBlock};
-ghost use Rattle.text.specs.Text.{readText, writeText, writeTextAfter};
-ghost use Rattle.julian.specs.Dates.{writeJulian, readJulian};
+ghost use Rattle.text.specs.Text.{writeTextAfter};
+ghost use Rattle.text.specs.Marks.{readTextMarked, writeTextMarked};
+ghost use Rattle.julian.specs.Marks.{writeJulianMarked, readJulianMarked};
 ghost use Rattle.words.specs.Words.{tableFrom, tableWords};
-ghost use Rattle.mundreff.specs.Answers.{tableNumbers, stampFields, stampNumbers, textNumbers, labelNumbers, pairNumbers};
+ghost use Rattle.mundreff.specs.Answers.{tableNumbers, stampFields, instantWithMarks, stampWithMarks, textWithMarks, lengthWithMarks, labelWithMarks, pairWithMarks};
 ghost use Rattle.block.specs.Blocks.{writeBlock, writeBlockAfter};
 ghost use Rattle.kernel.specs.Reading.{readKernel};
 ghost use Rattle.kernel.specs.Writing.{writeKernel, writeKernelAfter};
 ghost use Rattle.mundreff.specs.Calls.{labelFrom, scaleFrom, readingFrom, pair};
 use answer::Written;
+use clock::MarkedTick;
 use clock::TickAnswer;
 use julian::JulianAnswer;
 use julian::JulianDate;
+use julian::MarkedPair;
 use labels::Label;
 use labels::Reading;
 use leap::TableAnswer;
 use leap::TableRead;
 use stamp::InstantAnswer;
+use stamp::MarkedInstant;
+use stamp::MarkedStamp;
 use stamp::Stamp;
 use stamp::StampAnswer;
+use text::MarkedText;
 use text::TextAnswer;
 use words::store_table;
 use words::table_of;
@@ -62,7 +68,7 @@ fn reading_of(stamp: &[u32; 8]) -> Reading
     }
 }
 
-// ---- what C is handed: each `give_` stores the values of an answer, zero on a refusal, and returns its number
+// ---- what C is handed: each `give_` stores the values of an answer, zero on a refusal, with its marks where it has any, and returns its number
 
 fn store_label(l: Label, out: &mut [u32; 6])
     ensures { λ _. ⌜ now (out .exit) ≡ fields l ⌝ }
@@ -104,10 +110,12 @@ fn give_length(a: Written, out: &mut usize) -> u32
     }
 }
 
-fn give_instant(a: InstantAnswer, out: &mut i64) -> u32
-    ensures { λ r. ⌜ (r, now (out .exit)) ≡ instantResults a ⌝ }
+fn give_instant<'a>(a: MarkedInstant, out: &'a mut i64, marks: &'a mut u32) -> u32
+    ensures { λ r. ⌜ (r, now (out .exit), now (marks .exit)) ≡ instantWithMarks a ⌝ }
 {
-    match a {
+    *marks = answer::marks_of(a.beyond);
+    let answer = a.answer;
+    match answer {
         InstantAnswer::At(x) => {
             *out = x;
             0
@@ -119,10 +127,12 @@ fn give_instant(a: InstantAnswer, out: &mut i64) -> u32
     }
 }
 
-fn give_stamp(a: StampAnswer, out: &mut [u32; 8]) -> u32
-    ensures { λ r. ⌜ (r, now (out .exit)) ≡ stampNumbers a ⌝ }
+fn give_stamp<'a>(a: MarkedStamp, out: &'a mut [u32; 8], marks: &'a mut u32) -> u32
+    ensures { λ r. ⌜ (r, now (out .exit), now (marks .exit)) ≡ stampWithMarks a ⌝ }
 {
-    match a {
+    *marks = answer::marks_of(a.beyond);
+    let answer = a.answer;
+    match answer {
         StampAnswer::Stamped(z) => {
             store_stamp(z, out);
             0
@@ -134,10 +144,17 @@ fn give_stamp(a: StampAnswer, out: &mut [u32; 8]) -> u32
     }
 }
 
-fn give_text<'a>(a: TextAnswer, instant: &'a mut i64, stamp: &'a mut [u32; 8]) -> u32
-    ensures { λ r. ⌜ (r, now (instant .exit), now (stamp .exit)) ≡ textNumbers a ⌝ }
+fn give_text<'a>(
+    a: MarkedText,
+    instant: &'a mut i64,
+    stamp: &'a mut [u32; 8],
+    marks: &'a mut u32,
+) -> u32
+    ensures { λ r. ⌜ (r, now (instant .exit), now (stamp .exit), now (marks .exit)) ≡ textWithMarks a ⌝ }
 {
-    match a {
+    *marks = answer::marks_of(a.beyond);
+    let answer = a.answer;
+    match answer {
         TextAnswer::Read {
             instant: x,
             stamp: z,
@@ -154,10 +171,12 @@ fn give_text<'a>(a: TextAnswer, instant: &'a mut i64, stamp: &'a mut [u32; 8]) -
     }
 }
 
-fn give_label(a: TickAnswer, out: &mut [u32; 6]) -> u32
-    ensures { λ r. ⌜ (r, now (out .exit)) ≡ labelNumbers a ⌝ }
+fn give_label<'a>(a: MarkedTick, out: &'a mut [u32; 6], marks: &'a mut u32) -> u32
+    ensures { λ r. ⌜ (r, now (out .exit), now (marks .exit)) ≡ labelWithMarks a ⌝ }
 {
-    match a {
+    *marks = answer::marks_of(a.beyond);
+    let answer = a.answer;
+    match answer {
         TickAnswer::Next(l) => {
             store_label(l, out);
             0
@@ -169,10 +188,17 @@ fn give_label(a: TickAnswer, out: &mut [u32; 6]) -> u32
     }
 }
 
-fn give_pair<'a>(a: JulianAnswer, midnight: &'a mut f64, fraction: &'a mut f64) -> u32
-    ensures { λ r. ⌜ (r, now (midnight .exit), now (fraction .exit)) ≡ pairNumbers a ⌝ }
+fn give_pair<'a>(
+    a: MarkedPair,
+    midnight: &'a mut f64,
+    fraction: &'a mut f64,
+    marks: &'a mut u32,
+) -> u32
+    ensures { λ r. ⌜ (r, now (midnight .exit), now (fraction .exit), now (marks .exit)) ≡ pairWithMarks a ⌝ }
 {
-    match a {
+    *marks = answer::marks_of(a.beyond);
+    let answer = a.answer;
+    match answer {
         JulianAnswer::Dated(p) => {
             let m = p.midnight;
             let f = p.fraction;
@@ -188,7 +214,7 @@ fn give_pair<'a>(a: JulianAnswer, midnight: &'a mut f64, fraction: &'a mut f64) 
     }
 }
 
-fn give_table<'a>(found: TableRead, place: &'a mut usize, table: &'a mut [u32; 129]) -> u32
+fn give_table<'a>(found: TableRead, place: &'a mut usize, table: &'a mut [u32; 130]) -> u32
     ensures { λ r. ⌜ (r, now (place .exit), now (table .exit)) ≡ tableNumbers found ⌝ }
 {
     let t = found.table;
@@ -209,7 +235,7 @@ fn give_table<'a>(found: TableRead, place: &'a mut usize, table: &'a mut [u32; 1
 // ---- the calls
 
 #[no_mangle]
-pub extern "C" fn mundreff_bulletin_c(table: &mut [u32; 129]) -> u32
+pub extern "C" fn mundreff_bulletin_c(table: &mut [u32; 130]) -> u32
     ensures { λ r. ⌜ (r ≡ 0) × (now (table .exit) ≡ tableWords bulletinC) ⌝ }
 {
     store_table(leap::bulletin_c(), table);
@@ -220,7 +246,7 @@ pub extern "C" fn mundreff_bulletin_c(table: &mut [u32; 129]) -> u32
 pub extern "C" fn mundreff_read_block<'a>(
     block: &[u8],
     place: &'a mut usize,
-    table: &'a mut [u32; 129],
+    table: &'a mut [u32; 130],
 ) -> u32
     ensures { λ r. ⌜ (r, now (place .exit), now (table .exit)) ≡ tableNumbers (readBlock (now (block .entry))) ⌝ }
 {
@@ -229,7 +255,7 @@ pub extern "C" fn mundreff_read_block<'a>(
 
 #[no_mangle]
 pub extern "C" fn mundreff_write_block(
-    table: &[u32; 129],
+    table: &[u32; 130],
     out: &mut [u8],
     length: &mut usize,
 ) -> u32
@@ -243,7 +269,7 @@ pub extern "C" fn mundreff_write_block(
 pub extern "C" fn mundreff_read_kernel<'a>(
     file: &[u8],
     place: &'a mut usize,
-    table: &'a mut [u32; 129],
+    table: &'a mut [u32; 130],
 ) -> u32
     ensures { λ r. ⌜ (r, now (place .exit), now (table .exit)) ≡ tableNumbers (readKernel (now (file .entry))) ⌝ }
 {
@@ -252,7 +278,7 @@ pub extern "C" fn mundreff_read_kernel<'a>(
 
 #[no_mangle]
 pub extern "C" fn mundreff_write_kernel(
-    table: &[u32; 129],
+    table: &[u32; 130],
     out: &mut [u8],
     length: &mut usize,
 ) -> u32
@@ -263,102 +289,118 @@ pub extern "C" fn mundreff_write_kernel(
 }
 
 #[no_mangle]
-pub extern "C" fn mundreff_instant_of(
-    table: &[u32; 129],
+pub extern "C" fn mundreff_instant_of<'a>(
+    table: &[u32; 130],
     stamp: &[u32; 8],
-    instant: &mut i64,
+    instant: &'a mut i64,
+    marks: &'a mut u32,
 ) -> u32
-    ensures { λ r. ⌜ (r, now (instant .exit)) ≡ instantResults (instantOf (tableFrom (now (table .entry))) (scaleFrom (now (stamp .entry))) (readingFrom (now (stamp .entry)))) ⌝ }
+    ensures { λ r. ⌜ (r, now (instant .exit), now (marks .exit)) ≡ instantWithMarks (instantOfMarked (tableFrom (now (table .entry))) (scaleFrom (now (stamp .entry))) (readingFrom (now (stamp .entry)))) ⌝ }
 {
     let a = stamp::instant_of(table_of(table), stamp[0], reading_of(stamp));
-    give_instant(a, instant)
+    give_instant(a, instant, marks)
 }
 
 #[no_mangle]
-pub extern "C" fn mundreff_stamp_of(
-    table: &[u32; 129],
+pub extern "C" fn mundreff_stamp_of<'a>(
+    table: &[u32; 130],
     instant: i64,
     scale: u32,
-    stamp: &mut [u32; 8],
+    stamp: &'a mut [u32; 8],
+    marks: &'a mut u32,
 ) -> u32
-    ensures { λ r. ⌜ (r, now (stamp .exit)) ≡ stampNumbers (stampOf (tableFrom (now (table .entry))) instant scale) ⌝ }
+    ensures { λ r. ⌜ (r, now (stamp .exit), now (marks .exit)) ≡ stampWithMarks (stampOfMarked (tableFrom (now (table .entry))) instant scale) ⌝ }
 {
     let a = stamp::stamp_of(table_of(table), instant, scale);
-    give_stamp(a, stamp)
+    give_stamp(a, stamp, marks)
 }
 
 #[no_mangle]
 pub extern "C" fn mundreff_read_text<'a>(
-    table: &[u32; 129],
+    table: &[u32; 130],
     scale: u32,
     text: &[u8],
     instant: &'a mut i64,
     stamp: &'a mut [u32; 8],
+    marks: &'a mut u32,
 ) -> u32
-    ensures { λ r. ⌜ (r, now (instant .exit), now (stamp .exit)) ≡ textNumbers (readText (tableFrom (now (table .entry))) scale (now (text .entry))) ⌝ }
+    ensures { λ r. ⌜ (r, now (instant .exit), now (stamp .exit), now (marks .exit)) ≡ textWithMarks (readTextMarked (tableFrom (now (table .entry))) scale (now (text .entry))) ⌝ }
 {
     let a = text::read_text(table_of(table), scale, text);
-    give_text(a, instant, stamp)
+    give_text(a, instant, stamp, marks)
 }
 
 #[no_mangle]
-pub extern "C" fn mundreff_write_text(
-    table: &[u32; 129],
+pub extern "C" fn mundreff_write_text<'a>(
+    table: &[u32; 130],
     instant: i64,
     picture: u32,
     scale: u32,
     digits: u32,
     out: &mut [u8],
-    length: &mut usize,
+    length: &'a mut usize,
+    marks: &'a mut u32,
 ) -> u32
-    ensures { λ r. ⌜ (r, now (length .exit)) ≡ writtenResults (writeText (tableFrom (now (table .entry))) instant picture scale digits (now (out .entry))) ⌝ }
+    ensures { λ r. ⌜ (r, now (length .exit), now (marks .exit)) ≡ lengthWithMarks (writeTextMarked (tableFrom (now (table .entry))) instant picture scale digits (now (out .entry))) ⌝ }
     ensures { λ _. ⌜ now (out .exit) ≡ writeTextAfter (tableFrom (now (table .entry))) instant picture scale digits (now (out .entry)) ⌝ }
 {
     let t = table_of(table);
     let a = text::write_text(t, instant, picture, scale, digits, out);
-    give_length(a, length)
+    *marks = answer::marks_of(a.beyond);
+    let answer = a.answer;
+    give_length(answer, length)
 }
 
 #[no_mangle]
 pub extern "C" fn mundreff_write_julian<'a>(
-    table: &[u32; 129],
+    table: &[u32; 130],
     instant: i64,
     scale: u32,
     midnight: &'a mut f64,
     fraction: &'a mut f64,
+    marks: &'a mut u32,
 ) -> u32
-    ensures { λ r. ⌜ (r, now (midnight .exit), now (fraction .exit)) ≡ pairNumbers (writeJulian (tableFrom (now (table .entry))) instant scale) ⌝ }
+    ensures { λ r. ⌜ (r, now (midnight .exit), now (fraction .exit), now (marks .exit)) ≡ pairWithMarks (writeJulianMarked (tableFrom (now (table .entry))) instant scale) ⌝ }
 {
     let a = julian::write_julian(table_of(table), instant, scale);
-    give_pair(a, midnight, fraction)
+    give_pair(a, midnight, fraction, marks)
 }
 
 #[no_mangle]
-pub extern "C" fn mundreff_read_julian(
-    table: &[u32; 129],
+pub extern "C" fn mundreff_read_julian<'a>(
+    table: &[u32; 130],
     scale: u32,
     midnight: f64,
     fraction: f64,
-    instant: &mut i64,
+    instant: &'a mut i64,
+    marks: &'a mut u32,
 ) -> u32
-    ensures { λ r. ⌜ (r, now (instant .exit)) ≡ instantResults (readJulian (tableFrom (now (table .entry))) scale (pair midnight fraction)) ⌝ }
+    ensures { λ r. ⌜ (r, now (instant .exit), now (marks .exit)) ≡ instantWithMarks (readJulianMarked (tableFrom (now (table .entry))) scale (pair midnight fraction)) ⌝ }
 {
     let date = JulianDate { midnight, fraction };
     let a = julian::read_julian(table_of(table), scale, date);
-    give_instant(a, instant)
+    give_instant(a, instant, marks)
 }
 
 #[no_mangle]
-pub extern "C" fn mundreff_start(table: &[u32; 129], label: &mut [u32; 6]) -> u32
-    ensures { λ r. ⌜ (r, now (label .exit)) ≡ labelNumbers (start (tableFrom (now (table .entry)))) ⌝ }
+pub extern "C" fn mundreff_start<'a>(
+    table: &[u32; 130],
+    label: &'a mut [u32; 6],
+    marks: &'a mut u32,
+) -> u32
+    ensures { λ r. ⌜ (r, now (label .exit), now (marks .exit)) ≡ labelWithMarks (startMarked (tableFrom (now (table .entry)))) ⌝ }
 {
-    give_label(clock::start(table_of(table)), label)
+    give_label(clock::start(table_of(table)), label, marks)
 }
 
 // The label becomes the next one: with one place for both, a tick in place is what is proved, and no two labels can overlap.
 #[no_mangle]
-pub extern "C" fn mundreff_tick_in_place(table: &[u32; 129], label: &mut [u32; 6]) -> u32
-    ensures { λ r. ⌜ (r, now (label .exit)) ≡ labelNumbers (tick (tableFrom (now (table .entry))) (labelFrom 0 (now (label .entry)))) ⌝ }
+pub extern "C" fn mundreff_tick_in_place<'a>(
+    table: &[u32; 130],
+    label: &'a mut [u32; 6],
+    marks: &'a mut u32,
+) -> u32
+    ensures { λ r. ⌜ (r, now (label .exit), now (marks .exit)) ≡ labelWithMarks (tickMarked (tableFrom (now (table .entry))) (labelFrom 0 (now (label .entry)))) ⌝ }
 {
-    give_label(clock::tick(table_of(table), label_of(label)), label)
+    give_label(clock::tick(table_of(table), label_of(label)), label, marks)
 }

@@ -9,6 +9,7 @@ pub mod Stamps
 pub mod Text
 pub mod Blocks
 pub mod Kernels
+pub mod Vouched
 pub mod Clock
 pub mod Julian
 pub mod Listing

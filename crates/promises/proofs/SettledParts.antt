@@ -28,6 +28,7 @@ pub settled-parts : SettledParts
 settled-parts =
     record {
       refusal-number = λ why k. equal;
+      marks-of = λ beyond k. equal;
       write = λ bytes out k. each;
       refused-at = λ why at k. equal;
       days-before = λ m k. equal;
@@ -35,16 +36,20 @@ settled-parts =
       month-of-day = λ day k. equal;
       day-of-year = λ m day k. equal;
       date-in-year = λ year day k. equal;
+      beyond = λ v m k. equal;
+      month-of = λ l k. equal;
       judge = λ most r k. equal;
       in-last-minute = λ days l k. equal;
       minute-length = λ days here after l k. equal;
       label-of = λ p k. equal;
       scale-numbered = λ n k. equal;
       scale-number = λ s k. equal;
+      refused-instant = λ why k. equal;
+      beyond-on = λ s v m k. equal;
     }
 
-pub settled-tables : (count : ℕ) (months : Lent (List ℕ)) (offsets : Lent (List ℤ)) → SettledTables count months offsets
-settled-tables count months offsets =
+pub settled-tables : (count : ℕ) (months : Lent (List ℕ)) (offsets : Lent (List ℤ)) (vouched : ℕ) → SettledTables count months offsets vouched
+settled-tables count months offsets vouched =
     record {
       tabled = λ k. equal;
       found = λ k. equal;

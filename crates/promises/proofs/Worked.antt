@@ -16,7 +16,7 @@ use Rattle.digits.specs.Bytes.{ascii}
 use Rattle.digits.specs.Decimals.{digitValue, spelled}
 use Rattle.digits.specs.Months.{amongMonths, monthNamed}
 use Rattle.leap.specs.declared.Table.{Table}
-use Rattle.leap.specs.Leap.{bulletinC, oneApart, placeRight, accepted, lastBegun, offsetAt}
+use Rattle.leap.specs.Leap.{bulletinC, oneApart, placeRight, vouchedRight, accepted, lastBegun, offsetIn}
 use Rattle.leap.proofs.BulletinC.{bulletin-accepted}
 use Rattle.labels.specs.declared.Reading.{Reading}
 use Rattle.labels.specs.Labels.{at, labelTests, lastMinute, minuteIn, realYear, realMonth, realDay, realClock, hasSecond}
@@ -75,7 +75,7 @@ quick {b} {t} e k text =
 
 -- the last second of 2016, by its day of the year
 end-of-2016 : Right (reads blockB 0 "2016-366T23:59:60" (pos 536500836000000) (at 2016 12 31 23 59 60 0))
-unfolding leapYear monthLength daysBefore lastBegun offsetAt lastMinute minuteIn realYear realMonth realDay realClock hasSecond toInstant axisAt pictureText
+unfolding leapYear monthLength daysBefore lastBegun offsetIn lastMinute minuteIn realYear realMonth realDay realClock hasSecond toInstant axisAt pictureText
 end-of-2016 =
     ap (λ (t : Table). textResults (readText t 0 (ascii "2016-366T23:59:60"))) is-B
     ∙ ap textResults (reads-as bulletinC 0 (ascii "2016-366T23:59:60") (pos 536500836000000) (at 2016 12 31 23 59 60 0)
@@ -118,11 +118,11 @@ refused-early buffer = rw (is-B, bulletin-accepted, too-early) (refl, refl)
 -- ---- all of them
 
 proved-set : All Right rows
-unfolding eqZ allBelow leapYear monthLength daysBefore oneApart placeRight accepted lastBegun offsetAt lastMinute minuteIn realYear realMonth realDay realClock hasSecond toInstant axisAt like readNumbered readOfYear readNamed digitValue spelled monthNamed amongMonths readGroups readEntries inBlock
+unfolding eqZ allBelow leapYear monthLength daysBefore oneApart placeRight vouchedRight accepted lastBegun offsetIn lastMinute minuteIn realYear realMonth realDay realClock hasSecond toInstant axisAt like readNumbered readOfYear readNamed digitValue spelled monthNamed amongMonths readGroups readEntries inBlock
 proved-set = (quick is-B _ _, (quick is-T _ _, (quick is-T _ _, (quick is-N _ _, (quick is-N _ _, (quick is-N _ _, (end-of-2016, (quick is-B _ _, (quick is-B _ _, (quick is-B _ _, (refl, (refl, (refl, (refl, (refl, tt)))))))))))))))
 
 further-rows : All Right furtherRows
-unfolding eqZ allBelow leapYear monthLength daysBefore oneApart placeRight accepted lastBegun offsetAt lastMinute minuteIn realYear realMonth realDay realClock hasSecond toInstant axisAt like readNumbered readOfYear readNamed digitValue spelled
+unfolding eqZ allBelow leapYear monthLength daysBefore oneApart placeRight vouchedRight accepted lastBegun offsetIn lastMinute minuteIn realYear realMonth realDay realClock hasSecond toInstant axisAt like readNumbered readOfYear readNamed digitValue spelled
 further-rows = (quick is-B _ _, (written-noon, (quick is-B _ _, (refused-early, (ap (λ (t : Table). julianResults (writeJulian t (pos 0) 1)) is-B ∙ julian-row, tt)))))
 
 pub worked : Worked

@@ -10,15 +10,16 @@ use Rattle.leap.specs.declared.Table.{Table}
 use Rattle.leap.specs.Leap.{bulletinC}
 use Rattle.labels.specs.declared.Label.{Label}
 use Rattle.labels.specs.declared.Reading.{Reading}
-use Rattle.stamp.specs.Stamps.{instantOf, stampOf}
-use Rattle.clock.specs.Clock.{start, tick}
+use Rattle.stamp.specs.Marks.{instantOfMarked, stampOfMarked}
+use Rattle.clock.specs.Marks.{startMarked, tickMarked}
 use Rattle.block.specs.Blocks.{writeBlock, writeBlockAfter}
 use Rattle.block.specs.Reading.{readBlock}
 use Rattle.kernel.specs.Reading.{readKernel}
 use Rattle.kernel.specs.Writing.{writeKernel, writeKernelAfter}
-use Rattle.text.specs.Text.{readText, writeText, writeTextAfter}
+use Rattle.text.specs.Text.{writeTextAfter}
+use Rattle.text.specs.Marks.{readTextMarked, writeTextMarked}
 use Rattle.julian.specs.declared.JulianDate.{JulianDate}
-use Rattle.julian.specs.Dates.{writeJulian, readJulian}
+use Rattle.julian.specs.Marks.{writeJulianMarked, readJulianMarked}
 use Rattle.listing.specs.Listing.{listed}
 use Rattle.laws.specs.Settles.{_&_, Lent, _becomes_, Returns, Leaves}
 use Rattle.leap.proofs.bulletin_c.Reads as leap-bulletin-c
@@ -47,16 +48,16 @@ pub record Settled : Type 0 where
   pub write-kernel : (t : Table) (out : Lent (List ℕ)) →
       Leaves kernel-write-kernel.Pre kernel-write-kernel.Post (t & out & tt) (λ bytes. t & out becomes bytes & tt)
       (writeKernel t (now out), writeKernelAfter t (now out))
-  pub instant-of : (t : Table) (scale : ℕ) (r : Reading) → Returns stamp-instant-of.Pre stamp-instant-of.Post (t & scale & r & tt) (instantOf t scale r)
-  pub stamp-of : (t : Table) (instant : ℤ) (scale : ℕ) → Returns stamp-stamp-of.Pre stamp-stamp-of.Post (t & instant & scale & tt) (stampOf t instant scale)
-  pub read-text : (t : Table) (scale : ℕ) (text : Lent (List ℕ)) → Returns text-read-text.Pre text-read-text.Post (t & scale & text & tt) (readText t scale (now text))
+  pub instant-of : (t : Table) (scale : ℕ) (r : Reading) → Returns stamp-instant-of.Pre stamp-instant-of.Post (t & scale & r & tt) (instantOfMarked t scale r)
+  pub stamp-of : (t : Table) (instant : ℤ) (scale : ℕ) → Returns stamp-stamp-of.Pre stamp-stamp-of.Post (t & instant & scale & tt) (stampOfMarked t instant scale)
+  pub read-text : (t : Table) (scale : ℕ) (text : Lent (List ℕ)) → Returns text-read-text.Pre text-read-text.Post (t & scale & text & tt) (readTextMarked t scale (now text))
   pub write-text : (t : Table) (instant : ℤ) (picture scale digits : ℕ) (out : Lent (List ℕ)) →
       Leaves text-write-text.Pre text-write-text.Post (t & instant & picture & scale & digits & out & tt) (λ bytes. t & instant & picture & scale & digits & out becomes bytes & tt)
-      (writeText t instant picture scale digits (now out), writeTextAfter t instant picture scale digits (now out))
-  pub write-julian : (t : Table) (instant : ℤ) (scale : ℕ) → Returns julian-write-julian.Pre julian-write-julian.Post (t & instant & scale & tt) (writeJulian t instant scale)
-  pub read-julian : (t : Table) (scale : ℕ) (date : JulianDate) → Returns julian-read-julian.Pre julian-read-julian.Post (t & scale & date & tt) (readJulian t scale date)
-  pub clock-starts : (t : Table) → Returns clock-start.Pre clock-start.Post (t & tt) (start t)
-  pub clock-ticks : (t : Table) (l : Label) → Returns clock-tick.Pre clock-tick.Post (t & l & tt) (tick t l)
+      (writeTextMarked t instant picture scale digits (now out), writeTextAfter t instant picture scale digits (now out))
+  pub write-julian : (t : Table) (instant : ℤ) (scale : ℕ) → Returns julian-write-julian.Pre julian-write-julian.Post (t & instant & scale & tt) (writeJulianMarked t instant scale)
+  pub read-julian : (t : Table) (scale : ℕ) (date : JulianDate) → Returns julian-read-julian.Pre julian-read-julian.Post (t & scale & date & tt) (readJulianMarked t scale date)
+  pub clock-starts : (t : Table) → Returns clock-start.Pre clock-start.Post (t & tt) (startMarked t)
+  pub clock-ticks : (t : Table) (l : Label) → Returns clock-tick.Pre clock-tick.Post (t & l & tt) (tickMarked t l)
   pub list : (input out : Lent (List ℕ)) →
       Leaves listing-list.Pre listing-list.Post (input & out & tt) (λ bytes. input & out becomes bytes & tt)
       (written [] (listed (now input)) (now out), bufferAfter [] (listed (now input)) (now out))

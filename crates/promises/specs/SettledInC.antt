@@ -8,18 +8,19 @@ use denote.Ref.{now}
 use Rattle.answer.specs.Buffers.{writtenResults}
 use Rattle.leap.specs.declared.Table.{Table}
 use Rattle.leap.specs.Leap.{bulletinC}
-use Rattle.stamp.specs.Stamps.{instantOf, instantResults, stampOf}
-use Rattle.clock.specs.Clock.{start, tick}
+use Rattle.stamp.specs.Marks.{instantOfMarked, stampOfMarked}
+use Rattle.clock.specs.Marks.{startMarked, tickMarked}
 use Rattle.block.specs.Blocks.{writeBlock, writeBlockAfter}
 use Rattle.block.specs.Reading.{readBlock}
 use Rattle.kernel.specs.Reading.{readKernel}
 use Rattle.kernel.specs.Writing.{writeKernel, writeKernelAfter}
-use Rattle.text.specs.Text.{readText, writeText, writeTextAfter}
-use Rattle.julian.specs.Dates.{writeJulian, readJulian}
+use Rattle.text.specs.Text.{writeTextAfter}
+use Rattle.text.specs.Marks.{readTextMarked, writeTextMarked}
+use Rattle.julian.specs.Marks.{writeJulianMarked, readJulianMarked}
 use Rattle.words.specs.Words.{tableFrom, tableWords}
-use Rattle.mundreff.specs.Answers.{tableNumbers, stampNumbers, textNumbers, labelNumbers, pairNumbers}
+use Rattle.mundreff.specs.Answers.{tableNumbers, instantWithMarks, stampWithMarks, textWithMarks, lengthWithMarks, labelWithMarks, pairWithMarks}
 use Rattle.mundreff.specs.Calls.{labelFrom, scaleFrom, readingFrom, pair}
-use Rattle.laws.specs.Settles.{_&_, Lent, _becomes_, Returns, Leaves, LeavesTwo, also}
+use Rattle.laws.specs.Settles.{_&_, Lent, _becomes_, Returns, Leaves, LeavesTwo, LeavesThree, also, alsoThree}
 use Rattle.words.proofs.table_of.Reads as words-table-of
 use Rattle.words.proofs.store_table.Reads as words-store-table
 use Rattle.mundreff.proofs.mundreff_bulletin_c.Reads as c-bulletin-c
@@ -54,28 +55,31 @@ pub record SettledInC : Type 0 where
   pub write-kernel : (table out : Lent (List ℕ)) (length : Lent ℕ) →
       LeavesTwo c-write-kernel.Pre c-write-kernel.Post (table & out & length & tt) (λ n bytes. table & out becomes bytes & length becomes n & tt)
       (also (writtenResults (writeKernel (tableFrom (now table)) (now out))) (writeKernelAfter (tableFrom (now table)) (now out)))
-  pub instant-of : (table stamp : Lent (List ℕ)) (instant : Lent ℤ) →
-      Leaves c-instant-of.Pre c-instant-of.Post (table & stamp & instant & tt) (λ x. table & stamp & instant becomes x & tt)
-      (instantResults (instantOf (tableFrom (now table)) (scaleFrom (now stamp)) (readingFrom (now stamp))))
-  pub stamp-of : (table : Lent (List ℕ)) (instant : ℤ) (scale : ℕ) (stamp : Lent (List ℕ)) →
-      Leaves c-stamp-of.Pre c-stamp-of.Post (table & instant & scale & stamp & tt) (λ words. table & instant & scale & stamp becomes words & tt)
-      (stampNumbers (stampOf (tableFrom (now table)) instant scale))
-  pub read-text : (table : Lent (List ℕ)) (scale : ℕ) (text : Lent (List ℕ)) (instant : Lent ℤ) (stamp : Lent (List ℕ)) →
-      LeavesTwo c-read-text.Pre c-read-text.Post (table & scale & text & instant & stamp & tt) (λ x words. table & scale & text & instant becomes x & stamp becomes words & tt)
-      (textNumbers (readText (tableFrom (now table)) scale (now text)))
-  pub write-text : (table : Lent (List ℕ)) (instant : ℤ) (picture scale digits : ℕ) (out : Lent (List ℕ)) (length : Lent ℕ) →
-      LeavesTwo c-write-text.Pre c-write-text.Post (table & instant & picture & scale & digits & out & length & tt)
-      (λ n bytes. table & instant & picture & scale & digits & out becomes bytes & length becomes n & tt)
-      (also (writtenResults (writeText (tableFrom (now table)) instant picture scale digits (now out))) (writeTextAfter (tableFrom (now table)) instant picture scale digits (now out)))
-  pub write-julian : (table : Lent (List ℕ)) (instant : ℤ) (scale : ℕ) (midnight fraction : Lent Float) →
-      LeavesTwo c-write-julian.Pre c-write-julian.Post (table & instant & scale & midnight & fraction & tt) (λ m f. table & instant & scale & midnight becomes m & fraction becomes f & tt)
-      (pairNumbers (writeJulian (tableFrom (now table)) instant scale))
-  pub read-julian : (table : Lent (List ℕ)) (scale : ℕ) (midnight fraction : Float) (instant : Lent ℤ) →
-      Leaves c-read-julian.Pre c-read-julian.Post (table & scale & midnight & fraction & instant & tt) (λ x. table & scale & midnight & fraction & instant becomes x & tt)
-      (instantResults (readJulian (tableFrom (now table)) scale (pair midnight fraction)))
-  pub clock-starts : (table label : Lent (List ℕ)) →
-      Leaves c-start.Pre c-start.Post (table & label & tt) (λ words. table & label becomes words & tt)
-      (labelNumbers (start (tableFrom (now table))))
-  pub clock-ticks-in-place : (table label : Lent (List ℕ)) →
-      Leaves c-tick-in-place.Pre c-tick-in-place.Post (table & label & tt) (λ words. table & label becomes words & tt)
-      (labelNumbers (tick (tableFrom (now table)) (labelFrom 0 (now label))))
+  pub instant-of : (table stamp : Lent (List ℕ)) (instant : Lent ℤ) (marks : Lent ℕ) →
+      LeavesTwo c-instant-of.Pre c-instant-of.Post (table & stamp & instant & marks & tt) (λ x m. table & stamp & instant becomes x & marks becomes m & tt)
+      (instantWithMarks (instantOfMarked (tableFrom (now table)) (scaleFrom (now stamp)) (readingFrom (now stamp))))
+  pub stamp-of : (table : Lent (List ℕ)) (instant : ℤ) (scale : ℕ) (stamp : Lent (List ℕ)) (marks : Lent ℕ) →
+      LeavesTwo c-stamp-of.Pre c-stamp-of.Post (table & instant & scale & stamp & marks & tt) (λ words m. table & instant & scale & stamp becomes words & marks becomes m & tt)
+      (stampWithMarks (stampOfMarked (tableFrom (now table)) instant scale))
+  pub read-text : (table : Lent (List ℕ)) (scale : ℕ) (text : Lent (List ℕ)) (instant : Lent ℤ) (stamp : Lent (List ℕ)) (marks : Lent ℕ) →
+      LeavesThree c-read-text.Pre c-read-text.Post (table & scale & text & instant & stamp & marks & tt)
+      (λ x words m. table & scale & text & instant becomes x & stamp becomes words & marks becomes m & tt)
+      (textWithMarks (readTextMarked (tableFrom (now table)) scale (now text)))
+  pub write-text : (table : Lent (List ℕ)) (instant : ℤ) (picture scale digits : ℕ) (out : Lent (List ℕ)) (length marks : Lent ℕ) →
+      LeavesThree c-write-text.Pre c-write-text.Post (table & instant & picture & scale & digits & out & length & marks & tt)
+      (λ n m bytes. table & instant & picture & scale & digits & out becomes bytes & length becomes n & marks becomes m & tt)
+      (alsoThree (lengthWithMarks (writeTextMarked (tableFrom (now table)) instant picture scale digits (now out))) (writeTextAfter (tableFrom (now table)) instant picture scale digits (now out)))
+  pub write-julian : (table : Lent (List ℕ)) (instant : ℤ) (scale : ℕ) (midnight fraction : Lent Float) (marks : Lent ℕ) →
+      LeavesThree c-write-julian.Pre c-write-julian.Post (table & instant & scale & midnight & fraction & marks & tt)
+      (λ d f m. table & instant & scale & midnight becomes d & fraction becomes f & marks becomes m & tt)
+      (pairWithMarks (writeJulianMarked (tableFrom (now table)) instant scale))
+  pub read-julian : (table : Lent (List ℕ)) (scale : ℕ) (midnight fraction : Float) (instant : Lent ℤ) (marks : Lent ℕ) →
+      LeavesTwo c-read-julian.Pre c-read-julian.Post (table & scale & midnight & fraction & instant & marks & tt)
+      (λ x m. table & scale & midnight & fraction & instant becomes x & marks becomes m & tt)
+      (instantWithMarks (readJulianMarked (tableFrom (now table)) scale (pair midnight fraction)))
+  pub clock-starts : (table label : Lent (List ℕ)) (marks : Lent ℕ) →
+      LeavesTwo c-start.Pre c-start.Post (table & label & marks & tt) (λ words m. table & label becomes words & marks becomes m & tt)
+      (labelWithMarks (startMarked (tableFrom (now table))))
+  pub clock-ticks-in-place : (table label : Lent (List ℕ)) (marks : Lent ℕ) →
+      LeavesTwo c-tick-in-place.Pre c-tick-in-place.Post (table & label & marks & tt) (λ words m. table & label becomes words & marks becomes m & tt)
+      (labelWithMarks (tickMarked (tableFrom (now table)) (labelFrom 0 (now label))))

@@ -1,7 +1,7 @@
 -- What the crates ask of each other is settled too: every other public function, by its own contract.
 -- Assumes nothing.
 use mathlib.Core.List.{List, [], _∷_}
-use mathlib.Core.Bool.{Bool, cond, _&&_}
+use mathlib.Core.Bool.{Bool, false, cond, _&&_}
 use Prim.Native.Nat.{ℕ, _+_, _-_, _^_, min}
 use lib.IntN.{ℤ}
 use lib.Dec.{eqb}
@@ -10,6 +10,7 @@ use lib.ListN.{length, drop, getD}
 use denote.Ref.{now}
 use Rattle.answer.specs.declared.Refusal.{Refusal}
 use Rattle.answer.specs.Refusals.{number}
+use Rattle.answer.specs.Marks.{marks}
 use Rattle.answer.specs.Buffers.{written, bufferAfter}
 use Rattle.digits.specs.Bytes.{endOf, appended}
 use Rattle.digits.specs.Decimals.{isDigit, digitValue, digitsOf, decimalOf, decimalText, signedText}
@@ -18,17 +19,18 @@ use Rattle.months.specs.Months.{daysBefore, monthLength}
 use Rattle.calendar.specs.Days.{dayOfYear}
 use Rattle.calendar.specs.Dates.{spanOfDay, dateInYear}
 use Rattle.leap.specs.declared.Table.{Table}
-use Rattle.leap.specs.Leap.{tabled, accepted, offsetAt, nearAt}
+use Rattle.leap.specs.Leap.{tabled, vouchedTo, accepted, offsetAt, nearAt, beyond}
 use Rattle.leap.specs.Readers.{found, refusedAt}
 use Rattle.labels.specs.declared.Label.{Label}
 use Rattle.labels.specs.declared.Reading.{Reading}
 use Rattle.labels.specs.declared.Place.{Place}
-use Rattle.labels.specs.Labels.{judged, inLastMinute, minuteIn}
+use Rattle.labels.specs.Labels.{monthOf, judged, inLastMinute, minuteIn}
 use Rattle.labels.specs.Back.{labelOf}
 use Rattle.stamp.specs.declared.Scale.{Scale}
+use Rattle.stamp.specs.declared.InstantAnswer.the-variants.{Refused as NoInstant}
 use Rattle.stamp.specs.Scales.{scaleOf, scaleNumber, asked}
-use Rattle.stamp.specs.Stamps.{instantIn, stampOf}
-use Rattle.stamp.specs.Back.{shownOf, instantShowing}
+use Rattle.stamp.specs.Stamps.{instantIn}
+use Rattle.stamp.specs.Marks.{beyondOn, markedInstant, stampOfMarked, shownOfMarked, instantShowingMarked}
 use Rattle.kinds.specs.Kinds.{isWhite, isGap, isBetween, isRun, isName, upper, beginData, beginText, ours}
 use Rattle.kinds.specs.Parts.{matched, grown, yearsBegin, grownYear, monthOn, monthNumber}
 use Rattle.automaton.specs.declared.Mode.{Mode}
@@ -45,6 +47,7 @@ use Rattle.fields.specs.Words.{wordAt}
 use Rattle.fields.specs.Fields.{naturalAt, integerAt, hexAt, patternAt}
 use Rattle.laws.specs.Settles.{_&_, Lent, _becomes_, Returns, Leaves}
 use Rattle.answer.proofs.number_of.Reads as answer-number-of
+use Rattle.answer.proofs.marks_of.Reads as answer-marks-of
 use Rattle.answer.proofs.write.Reads as answer-write
 use Rattle.digits.proofs.byte_at.Reads as digits-byte-at
 use Rattle.digits.proofs.append.Reads as digits-append
@@ -65,14 +68,18 @@ use Rattle.leap.proofs.tabled.Reads as leap-tabled
 use Rattle.leap.proofs.found.Reads as leap-found
 use Rattle.leap.proofs.refused_at.Reads as leap-refused-at
 use Rattle.leap.proofs.is_accepted_in.Reads as leap-is-accepted-in
+use Rattle.leap.proofs.beyond.Reads as leap-beyond
 use Rattle.leap.proofs.offset_at.Reads as leap-offset-at
 use Rattle.leap.proofs.near.Reads as leap-near
+use Rattle.labels.proofs.month_of.Reads as labels-month-of
 use Rattle.labels.proofs.judge.Reads as labels-judge
 use Rattle.labels.proofs.in_last_minute.Reads as labels-in-last-minute
 use Rattle.labels.proofs.minute_length.Reads as labels-minute-length
 use Rattle.labels.proofs.label_of.Reads as labels-label-of
 use Rattle.stamp.proofs.Scale.numbered.Reads as stamp-scale-numbered
 use Rattle.stamp.proofs.Scale.number.Reads as stamp-scale-number
+use Rattle.stamp.proofs.beyond_on.Reads as stamp-beyond-on
+use Rattle.stamp.proofs.refused_instant.Reads as stamp-refused-instant
 use Rattle.stamp.proofs.asked.Reads as stamp-asked
 use Rattle.stamp.proofs.instant_in.Reads as stamp-instant-in
 use Rattle.stamp.proofs.stamp_of_in.Reads as stamp-stamp-of-in
@@ -114,6 +121,7 @@ use Rattle.fields.proofs.pattern.Reads as fields-pattern
 -- refusals and buffers; months, dates, labels and scales
 pub record SettledParts : Type 0 where
   pub refusal-number : (why : Refusal) → Returns answer-number-of.Pre answer-number-of.Post (why & tt) (number why)
+  pub marks-of : (beyond : Bool) → Returns answer-marks-of.Pre answer-marks-of.Post (beyond & tt) (marks beyond)
   pub write : (bytes out : Lent (List ℕ)) →
       Leaves answer-write.Pre answer-write.Post (bytes & out & tt) (λ after. bytes & out becomes after & tt)
       (written [] (now bytes) (now out), bufferAfter [] (now bytes) (now out))
@@ -123,29 +131,36 @@ pub record SettledParts : Type 0 where
   pub month-of-day : (day : ℕ) → Returns calendar-month-of-day.Pre calendar-month-of-day.Post (day & tt) (spanOfDay day)
   pub day-of-year : (m day : ℕ) → Returns calendar-day-of-year.Pre calendar-day-of-year.Post (m & day & tt) (dayOfYear m day)
   pub date-in-year : (year day : ℕ) → Returns calendar-date-in-year.Pre calendar-date-in-year.Post (year & day & tt) (dateInYear year day)
+  pub beyond : (v m : ℕ) → Returns leap-beyond.Pre leap-beyond.Post (v & m & tt) (beyond v m)
+  pub month-of : (l : Label) → Returns labels-month-of.Pre labels-month-of.Post (l & tt) (monthOf l)
   pub judge : (most : ℕ) (r : Reading) → Returns labels-judge.Pre labels-judge.Post (most & r & tt) (judged most r)
   pub in-last-minute : (days : ℕ) (l : Label) → Returns labels-in-last-minute.Pre labels-in-last-minute.Post (days & l & tt) (inLastMinute days l)
   pub minute-length : (days : ℕ) (here after : ℤ) (l : Label) → Returns labels-minute-length.Pre labels-minute-length.Post (days & here & after & l & tt) (minuteIn days here after l)
   pub label-of : (p : Place) → Returns labels-label-of.Pre labels-label-of.Post (p & tt) (labelOf p)
   pub scale-numbered : (k : ℕ) → Returns stamp-scale-numbered.Pre stamp-scale-numbered.Post (k & tt) (scaleOf k)
   pub scale-number : (s : Scale) → Returns stamp-scale-number.Pre stamp-scale-number.Post (s & tt) (scaleNumber s)
+  pub refused-instant : (why : Refusal) → Returns stamp-refused-instant.Pre stamp-refused-instant.Post (why & tt) (markedInstant (NoInstant why) false)
+  pub beyond-on : (s : Scale) (v m : ℕ) → Returns stamp-beyond-on.Pre stamp-beyond-on.Post (s & v & m & tt) (beyondOn v s m)
 
--- what is asked of a table whose two arrays are lent
-module _ (count : ℕ) (months : Lent (List ℕ)) (offsets : Lent (List ℤ)) where
+-- what is asked of a table whose two arrays are lent: where it is judged, with its month; and past that of its entries alone
+module _ (count : ℕ) (months : Lent (List ℕ)) (offsets : Lent (List ℤ)) (vouched : ℕ) where
+  abbrev entered : Table
+  entered = tabled count (now months) (now offsets)
+
   abbrev table : Table
-  table = tabled count (now months) (now offsets)
+  table = vouchedTo vouched entered
 
   pub record SettledTables : Type 0 where
-    pub tabled : Returns leap-tabled.Pre leap-tabled.Post (count & months & offsets & tt) table
-    pub found : Returns leap-found.Pre leap-found.Post (count & months & offsets & tt) (found table)
-    pub is-accepted : Returns leap-is-accepted-in.Pre leap-is-accepted-in.Post (count & months & offsets & tt) (accepted table)
-    pub offset-at : (m : ℕ) → Returns leap-offset-at.Pre leap-offset-at.Post (count & months & offsets & m & tt) (offsetAt table m)
-    pub near : (m : ℕ) → Returns leap-near.Pre leap-near.Post (count & months & offsets & m & tt) (nearAt table m)
-    pub asked : (scale : ℕ) → Returns stamp-asked.Pre stamp-asked.Post (count & months & offsets & scale & tt) (asked table scale)
-    pub instant-in : (s : Scale) (r : Reading) → Returns stamp-instant-in.Pre stamp-instant-in.Post (s & count & months & offsets & r & tt) (instantIn table s r)
-    pub stamp-of : (instant : ℤ) (scale : ℕ) → Returns stamp-stamp-of-in.Pre stamp-stamp-of-in.Post (count & months & offsets & instant & scale & tt) (stampOf table instant scale)
-    pub shown-of : (instant : ℤ) (scale : ℕ) → Returns stamp-shown-of.Pre stamp-shown-of.Post (count & months & offsets & instant & scale & tt) (shownOf table instant scale)
-    pub instant-showing : (s : Scale) (micro : ℕ) → Returns stamp-instant-showing.Pre stamp-instant-showing.Post (s & count & months & offsets & micro & tt) (instantShowing table s micro)
+    pub tabled : Returns leap-tabled.Pre leap-tabled.Post (count & months & offsets & vouched & tt) table
+    pub found : Returns leap-found.Pre leap-found.Post (count & months & offsets & tt) (found entered)
+    pub is-accepted : Returns leap-is-accepted-in.Pre leap-is-accepted-in.Post (count & months & offsets & vouched & tt) (accepted table)
+    pub offset-at : (m : ℕ) → Returns leap-offset-at.Pre leap-offset-at.Post (count & months & offsets & m & tt) (offsetAt entered m)
+    pub near : (m : ℕ) → Returns leap-near.Pre leap-near.Post (count & months & offsets & m & tt) (nearAt entered m)
+    pub asked : (scale : ℕ) → Returns stamp-asked.Pre stamp-asked.Post (count & months & offsets & vouched & scale & tt) (asked table scale)
+    pub instant-in : (s : Scale) (r : Reading) → Returns stamp-instant-in.Pre stamp-instant-in.Post (s & count & months & offsets & r & tt) (instantIn entered s r)
+    pub stamp-of : (instant : ℤ) (scale : ℕ) → Returns stamp-stamp-of-in.Pre stamp-stamp-of-in.Post (count & months & offsets & vouched & instant & scale & tt) (stampOfMarked table instant scale)
+    pub shown-of : (instant : ℤ) (scale : ℕ) → Returns stamp-shown-of.Pre stamp-shown-of.Post (count & months & offsets & vouched & instant & scale & tt) (shownOfMarked table instant scale)
+    pub instant-showing : (s : Scale) (micro : ℕ) → Returns stamp-instant-showing.Pre stamp-instant-showing.Post (s & count & months & offsets & vouched & micro & tt) (instantShowingMarked table s micro)
 
 -- bytes: digits, pictures, lines and their fields
 pub record SettledBytes : Type 0 where

@@ -1,6 +1,6 @@
 -- What is answered where an instant falls: its stamp, and what its scale shows there.
 -- Assumes nothing.
-use mathlib.Core.Path.{_≡_, refl, sym, ap, subst, _∙_}
+use mathlib.Core.Path.{_≡_, refl, sym, ap, ap₂, subst, _∙_}
 use mathlib.Core.Bool.{Bool, true, false, cond}
 use mathlib.Core.List.{List, [], _∷_, _++_}
 use Prim.Native.Nat.{ℕ, _+_, _*_, _/_, _%_, _≤_}
@@ -15,7 +15,8 @@ use Rattle.leap.specs.declared.Table.{Table}
 use Rattle.leap.proofs.Facts.{Accepted, accepted-to}
 use Rattle.labels.specs.Labels.{Offsets}
 use Rattle.labels.specs.Seconds.{microOf}
-use Rattle.labels.specs.Back.{labelOf, labelAt}
+use Rattle.labels.specs.Back.{placeAt, labelOf, labelAt}
+use Rattle.labels.proofs.Facts.{place-month}
 use Rattle.labels.proofs.Falls.{Covered}
 use Rattle.labels.proofs.Labelled.{label-shows, place-few}
 use Rattle.labels.proofs.Years.{covered-to}
@@ -23,24 +24,26 @@ use Rattle.stamp.specs.declared.Scale.{Scale}
 use Rattle.stamp.specs.declared.Moment.{Moment}
 use Rattle.stamp.specs.declared.MomentAnswer.{MomentAnswer}
 use Rattle.stamp.specs.declared.MomentAnswer.the-variants.{In, Refused as Nowhere}
-use Rattle.stamp.specs.declared.StampAnswer.{StampAnswer}
 use Rattle.stamp.specs.declared.StampAnswer.the-variants.{Stamped, Refused as NoStamp}
-use Rattle.stamp.specs.declared.ShownAnswer.{ShownAnswer}
+use Rattle.stamp.specs.declared.MarkedStamp.{MarkedStamp}
+use Rattle.stamp.specs.declared.MarkedShown.{MarkedShown}
 use Rattle.stamp.specs.declared.ShownAnswer.the-variants.{Shown, Refused as NotShown}
 use Rattle.stamp.specs.Scales.{scaleOf, scaleTests, offsetsOf}
 use Rattle.stamp.specs.Back.{inRange, axisCount, stampAt, shownOf}
 use Rattle.stamp.specs.Stamps.{stampOf}
+use Rattle.stamp.specs.Marks.{beyondOn, beyondAt, markedStamp, markedShown, stampOfMarked, shownOfMarked}
 use Rattle.stamp.specs.Parts.{momentAt, momentOf}
 use Rattle.stamp.proofs.Scales.{steps}
 use Rattle.stamp.proofs.Ranges.{count-in-years}
 
-abbrev pub stamped : MomentAnswer → StampAnswer
-stamped (In m) = Stamped (record { scale = m .scale; reading = record { label = labelOf (m .place); micro = m .micro } })
-stamped (Nowhere why) = NoStamp why
+-- v is the table's vouched number
+abbrev pub stamped : ℕ → MomentAnswer → MarkedStamp
+stamped v (In m) = record { answer = Stamped (record { scale = m .scale; reading = record { label = labelOf (m .place); micro = m .micro } }); beyond = beyondOn v (m .scale) (m .place .month) }
+stamped v (Nowhere why) = record { answer = NoStamp why; beyond = false }
 
-abbrev pub shown : MomentAnswer → ShownAnswer
-shown (In m) = Shown (1000000 * (86400 * m .place .start + m .place .second) + m .micro)
-shown (Nowhere why) = NotShown why
+abbrev pub shown : ℕ → MomentAnswer → MarkedShown
+shown v (In m) = record { answer = Shown (1000000 * (86400 * m .place .start + m .place .second) + m .micro); beyond = beyondOn v (m .scale) (m .place .month) }
+shown v (Nowhere why) = record { answer = NotShown why; beyond = false }
 
 -- two orders with the same tests answer alike where their answers are the same once all tests pass
 refusing-same : {A : Type 0} (refuse : Refusal → A) (tests : List (Bool × Refusal)) (a b : A) → (allPass tests ≡ true → a ≡ b) → refusing refuse tests a ≡ refusing refuse tests b
@@ -61,9 +64,17 @@ module _ (t : Table) (x : ℤ) (k : ℕ) where
   abbrev tests : List (Bool × Refusal)
   tests = scaleTests t k ++ (inRange t (scaleOf k) x, RANGE) ∷ []
 
-  pub stamp-of-moment : stamped (momentOf t x k) ≡ stampOf t x k
+  -- the place's month is the label's
+  mark-is : beyondOn (t .vouched) sc (placeAt o (axisCount sc x / 1000000) .month) ≡ beyondAt t sc x
+  unfolding labelAt
+  mark-is = ap (beyondOn (t .vouched) sc) (sym (place-month (placeAt o (axisCount sc x / 1000000))))
+
+  pub stamp-of-moment : stamped (t .vouched) (momentOf t x k) ≡ stampOfMarked t x k
   unfolding momentOf stampOf labelAt
-  stamp-of-moment = refusing-map stamped Nowhere tests (In (momentAt t sc x))
+  stamp-of-moment =
+      refusing-map (stamped (t .vouched)) Nowhere tests (In (momentAt t sc x))
+      ∙ ap (λ (b : Bool). refusing (λ why. record { answer = NoStamp why; beyond = false }) tests (markedStamp (Stamped (stampAt t sc x)) b)) mark-is
+      ∙ sym (refusing-map (λ a. markedStamp a (beyondAt t sc x)) NoStamp tests (Stamped (stampAt t sc x)))
 
   -- past all tests the second is in the years that have labels
   module _ (all : allPass tests ≡ true) where
@@ -73,12 +84,18 @@ module _ (t : Table) (x : ℤ) (k : ℕ) where
     covered : Covered o (axisCount sc x / 1000000)
     covered = covered-to o (steps t acc sc) (axisCount sc x) (count-in-years t acc sc x (search (and-l, and-r)))
 
-    shows : shown (In (momentAt t sc x)) ≡ Shown (microOf (stampAt t sc x .reading))
-    shows = ap (λ (n : ℕ). Shown (1000000 * n + axisCount sc x % 1000000)) (sym (label-shows o (steps t acc sc) (axisCount sc x / 1000000) covered))
+    shows : shown (t .vouched) (In (momentAt t sc x)) ≡ markedShown (Shown (microOf (stampAt t sc x .reading))) (beyondAt t sc x)
+    shows =
+        ap₂ (λ (n : ℕ) (b : Bool). markedShown (Shown (1000000 * n + axisCount sc x % 1000000)) b)
+        (sym (label-shows o (steps t acc sc) (axisCount sc x / 1000000) covered))
+        mark-is
 
-  pub shown-of-moment : shown (momentOf t x k) ≡ shownOf t x k
+  pub shown-of-moment : shown (t .vouched) (momentOf t x k) ≡ shownOfMarked t x k
   unfolding momentOf shownOf
-  shown-of-moment = refusing-map shown Nowhere tests (In (momentAt t sc x)) ∙ refusing-same NotShown tests _ _ shows
+  shown-of-moment =
+      refusing-map (shown (t .vouched)) Nowhere tests (In (momentAt t sc x))
+      ∙ refusing-same (λ why. record { answer = NotShown why; beyond = false }) tests _ _ shows
+      ∙ sym (refusing-map (λ a. markedShown a (beyondAt t sc x)) NotShown tests (Shown (microOf (stampAt t sc x .reading))))
 
   -- a moment's numbers are small
   pub moment-few : (m : Moment) → momentOf t x k ≡ In m → (m .place .start ≤ 4000000) × ((m .place .second ≤ 3000000) × (m .micro ≤ 999999))

@@ -36,7 +36,7 @@ stampAt t s x = record { scale = s; reading = readingAt (offsetsOf t s) (axisCou
 
 -- ---- what a scale shows, in microseconds of days of 86,400 seconds
 
--- `shown_of`
+-- `shown_of`, without its mark
 unfoldable pub shownOf : Table → ℤ → ℕ → ShownAnswer
 shownOf t x k = refusing NotShown (scaleTests t k ++ (inRange t (scaleOf k) x, RANGE) ∷ []) (Shown (microOf (stampAt t (scaleOf k) x .reading)))
 
@@ -44,6 +44,6 @@ abbrev pub showingTests : Table → Scale → ℕ → List (Bool × Refusal)
 showingTests t s u =
     (leb (microOf firstReading) u && leb u (microOf lastReading), RANGE) ∷ (hasSecond (offsetsOf t s) (readingAt uniform u .label), NOSECOND) ∷ []
 
--- `instant_showing`: of the reading that shows it and has no second 60
+-- `instant_showing`, without its mark: of the reading that shows it and has no second 60
 unfoldable pub instantShowing : Table → Scale → ℕ → InstantAnswer
 instantShowing t s u = refusing Refused (showingTests t s u) (At (instantFor t s (readingAt uniform u)))

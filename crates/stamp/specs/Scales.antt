@@ -44,11 +44,15 @@ asked t k = refusing Refused (scaleTests t k) (On (scaleOf k))
 
 -- ---- the calendar rule
 
+-- by those of UTC, so that nothing else of a table counts
+abbrev pub offsetsBy : Offsets → Scale → Offsets
+offsetsBy o Utc = o
+offsetsBy o Tai = uniform
+offsetsBy o Tdt = uniform
+offsetsBy o Gps = uniform
+
 abbrev pub offsetsOf : Table → Scale → Offsets
-offsetsOf t Utc = offsetAt t
-offsetsOf t Tai = uniform
-offsetsOf t Tdt = uniform
-offsetsOf t Gps = uniform
+offsetsOf t = offsetsBy (offsetAt t)
 
 abbrev pub mostSecond : Scale → ℕ
 mostSecond Utc = 60

@@ -23,7 +23,7 @@ use Rattle.stamp.specs.Back.{inRange, stampAt}
 abbrev pub instantIn : Table → Scale → Reading → InstantAnswer
 instantIn t s r = refusing Refused (labelTests (offsetsOf t s) (mostSecond s) r) (At (instantFor t s r))
 
--- `instant_of`
+-- `instant_of`, without its mark
 unfoldable pub instantOf : Table → ℕ → Reading → InstantAnswer
 instantOf t k r = refusing Refused (scaleTests t k) (instantIn t (scaleOf k) r)
 
@@ -34,7 +34,7 @@ instantResults (Refused why) = (number why, pos 0)
 
 -- ---- the stamp of an instant
 
--- `stamp_of`
+-- `stamp_of`, without its mark
 unfoldable pub stampOf : Table → ℤ → ℕ → StampAnswer
 stampOf t x k = refusing NoStamp (scaleTests t k ++ (inRange t (scaleOf k) x, RANGE) ∷ []) (Stamped (stampAt t (scaleOf k) x))
 

@@ -1,14 +1,14 @@
 // Scales and stamps: the instant of a stamp, and the stamp of an instant.
 // An instant is a count of TAI microseconds from 2000-01-01 12:00:00 TAI; a scale's own axis counts microseconds from year 0.
 ghost use mathlib.Core.Path.{_≡_};
-ghost use mathlib.Core.Bool.{true};
+ghost use mathlib.Core.Bool.{true, false};
 ghost use mathlib.Core.List.{[], _∷_};
 ghost use Prim.Native.Nat.{_+_, _*_, _/_, _≤_};
 ghost use lib.IntN.{pos, negsuc, _-ℤ_};
 ghost use lib.Signed.{_≤ℤ_};
 ghost use Rattle.answer.specs.declared.Refusal.the-variants.{NoSecond as NOSECOND};
 ghost use Rattle.answer.specs.Refusals.{refusing};
-ghost use Rattle.leap.specs.Leap.{tabled, accepted};
+ghost use Rattle.leap.specs.Leap.{tabled, vouchedTo, accepted};
 ghost use Rattle.months.specs.Months.{daysBefore};
 ghost use Rattle.labels.specs.declared.Judged.the-variants.{Real};
 ghost use Rattle.labels.specs.Labels.{uniform, monthOf, judged, hasSecond};
@@ -16,8 +16,9 @@ ghost use Rattle.labels.specs.Seconds.{microOf, axisAt, inYears, lastMonth};
 ghost use Rattle.labels.specs.Back.{dayBegins, placeAt};
 ghost use Rattle.stamp.specs.Scales.{scaleOf, scaleNumber, asked, fixed, offsetsOf, mostSecond, toInstant, instantFor};
 ghost use Rattle.stamp.specs.Parts.{firstOffset, momentIn, momentOf};
-ghost use Rattle.stamp.specs.Back.{inRange, axisCount, shownOf, instantShowing};
-ghost use Rattle.stamp.specs.Stamps.{instantIn, instantOf, stampOf};
+ghost use Rattle.stamp.specs.Back.{inRange, axisCount};
+ghost use Rattle.stamp.specs.Stamps.{instantIn};
+ghost use Rattle.stamp.specs.Marks.{beyondOn, markedInstant, instantOfMarked, stampOfMarked, shownOfMarked, instantShowingMarked};
 use answer::Refusal;
 use labels::Judged;
 use labels::Month;
@@ -58,6 +59,22 @@ pub enum StampAnswer {
 pub enum ShownAnswer {
     Shown(u64),
     Refused(Refusal),
+}
+
+// Beside each answer stands its mark: on UTC, whether the month lies beyond the one that the table is vouched for.
+pub struct MarkedInstant {
+    pub answer: InstantAnswer,
+    pub beyond: bool,
+}
+
+pub struct MarkedStamp {
+    pub answer: StampAnswer,
+    pub beyond: bool,
+}
+
+pub struct MarkedShown {
+    pub answer: ShownAnswer,
+    pub beyond: bool,
 }
 
 // Where an instant falls on its scale: a second of a month, and the microsecond of that.
@@ -221,17 +238,51 @@ pub fn asked<'a>(
     count: usize,
     months: &'a [u32; 64],
     offsets: &'a [i32; 64],
+    vouched: u32,
     scale: u32,
 ) -> ScaleAnswer
-    ensures { λ r. ⌜ r ≡ asked (tabled count (now (months .entry)) (now (offsets .entry))) scale ⌝ }
+    ensures { λ r. ⌜ r ≡ asked (vouchedTo vouched (tabled count (now (months .entry)) (now (offsets .entry)))) scale ⌝ }
 {
     if Scale::MOST < scale {
         return ScaleAnswer::Refused(Refusal::Ask);
     }
-    if !leap::is_accepted_in(count, months, offsets) {
+    if !leap::is_accepted_in(count, months, offsets, vouched) {
         return ScaleAnswer::Refused(Refusal::Table);
     }
     ScaleAnswer::On(Scale::numbered(scale))
+}
+
+// ---- marks
+
+// UTC has a mark in the calendar's month m, a uniform scale none.
+pub fn beyond_on(scale: Scale, vouched: u32, m: u64) -> bool
+    ensures { λ r. ⌜ r ≡ beyondOn vouched scale m ⌝ }
+{
+    match scale {
+        Scale::Utc => leap::beyond(vouched, m),
+        Scale::Tai => false,
+        Scale::Tdt => false,
+        Scale::Gps => false,
+    }
+}
+
+// A refusal has no mark.
+pub fn refused_instant(why: Refusal) -> MarkedInstant
+    ensures { λ r. ⌜ r ≡ markedInstant (InstantAnswer.Refused why) false ⌝ }
+{
+    let answer = InstantAnswer::Refused(why);
+    let beyond = false;
+    MarkedInstant { answer, beyond }
+}
+
+fn marked_instant(answer: InstantAnswer, mark: bool) -> MarkedInstant
+    ensures { λ r. ⌜ r ≡ markedInstant answer mark ⌝ }
+{
+    let beyond = match answer {
+        InstantAnswer::At(_) => mark,
+        InstantAnswer::Refused(_) => false,
+    };
+    MarkedInstant { answer, beyond }
 }
 
 // ---- a stamp to its instant
@@ -286,13 +337,17 @@ pub fn instant_in<'a>(
     }
 }
 
-pub fn instant_of(t: Table, scale: u32, r: Reading) -> InstantAnswer
-    ensures { λ a. ⌜ a ≡ instantOf t scale r ⌝ }
+pub fn instant_of(t: Table, scale: u32, r: Reading) -> MarkedInstant
+    ensures { λ a. ⌜ a ≡ instantOfMarked t scale r ⌝ }
 {
     let count = t.count;
-    match asked(count, &t.months, &t.offsets, scale) {
-        ScaleAnswer::On(s) => instant_in(s, count, &t.months, &t.offsets, r),
-        ScaleAnswer::Refused(why) => InstantAnswer::Refused(why),
+    let vouched = t.vouched;
+    match asked(count, &t.months, &t.offsets, vouched, scale) {
+        ScaleAnswer::On(s) => {
+            let answer = instant_in(s, count, &t.months, &t.offsets, r);
+            marked_instant(answer, beyond_on(s, vouched, labels::month_of(r.label)))
+        }
+        ScaleAnswer::Refused(why) => refused_instant(why),
     }
 }
 
@@ -412,12 +467,13 @@ fn moment_of<'a>(
     count: usize,
     months: &'a [u32; 64],
     offsets: &'a [i32; 64],
+    vouched: u32,
     instant: i64,
     scale: u32,
 ) -> MomentAnswer
-    ensures { λ r. ⌜ r ≡ momentOf (tabled count (now (months .entry)) (now (offsets .entry))) instant scale ⌝ }
+    ensures { λ r. ⌜ r ≡ momentOf (vouchedTo vouched (tabled count (now (months .entry)) (now (offsets .entry)))) instant scale ⌝ }
 {
-    match asked(count, months, offsets, scale) {
+    match asked(count, months, offsets, vouched, scale) {
         ScaleAnswer::On(s) => moment_in(s, count, months, offsets, instant),
         ScaleAnswer::Refused(why) => MomentAnswer::Refused(why),
     }
@@ -428,12 +484,13 @@ pub fn stamp_of_in<'a>(
     count: usize,
     months: &'a [u32; 64],
     offsets: &'a [i32; 64],
+    vouched: u32,
     instant: i64,
     scale: u32,
-) -> StampAnswer
-    ensures { λ r. ⌜ r ≡ stampOf (tabled count (now (months .entry)) (now (offsets .entry))) instant scale ⌝ }
+) -> MarkedStamp
+    ensures { λ r. ⌜ r ≡ stampOfMarked (vouchedTo vouched (tabled count (now (months .entry)) (now (offsets .entry)))) instant scale ⌝ }
 {
-    match moment_of(count, months, offsets, instant, scale) {
+    match moment_of(count, months, offsets, vouched, instant, scale) {
         MomentAnswer::In(m) => {
             let label = labels::label_of(m.place);
             let reading = Reading {
@@ -441,16 +498,21 @@ pub fn stamp_of_in<'a>(
                 micro: m.micro,
             };
             let scale = m.scale;
-            StampAnswer::Stamped(Stamp { scale, reading })
+            let beyond = beyond_on(scale, vouched, m.place.month as u64);
+            let answer = StampAnswer::Stamped(Stamp { scale, reading });
+            MarkedStamp { answer, beyond }
         }
-        MomentAnswer::Refused(why) => StampAnswer::Refused(why),
+        MomentAnswer::Refused(why) => MarkedStamp {
+            answer: StampAnswer::Refused(why),
+            beyond: false,
+        },
     }
 }
 
-pub fn stamp_of(t: Table, instant: i64, scale: u32) -> StampAnswer
-    ensures { λ r. ⌜ r ≡ stampOf t instant scale ⌝ }
+pub fn stamp_of(t: Table, instant: i64, scale: u32) -> MarkedStamp
+    ensures { λ r. ⌜ r ≡ stampOfMarked t instant scale ⌝ }
 {
-    stamp_of_in(t.count, &t.months, &t.offsets, instant, scale)
+    stamp_of_in(t.count, &t.months, &t.offsets, t.vouched, instant, scale)
 }
 
 // ---- what a scale shows
@@ -460,17 +522,25 @@ pub fn shown_of<'a>(
     count: usize,
     months: &'a [u32; 64],
     offsets: &'a [i32; 64],
+    vouched: u32,
     instant: i64,
     scale: u32,
-) -> ShownAnswer
-    ensures { λ r. ⌜ r ≡ shownOf (tabled count (now (months .entry)) (now (offsets .entry))) instant scale ⌝ }
+) -> MarkedShown
+    ensures { λ r. ⌜ r ≡ shownOfMarked (vouchedTo vouched (tabled count (now (months .entry)) (now (offsets .entry)))) instant scale ⌝ }
 {
-    match moment_of(count, months, offsets, instant, scale) {
+    match moment_of(count, months, offsets, vouched, instant, scale) {
         MomentAnswer::In(m) => {
             let p = m.place;
-            ShownAnswer::Shown(1000000 * (86400 * p.start + p.second as u64) + m.micro as u64)
+            let micro = 1000000 * (86400 * p.start + p.second as u64) + m.micro as u64;
+            let answer = ShownAnswer::Shown(micro);
+            let scale = m.scale;
+            let beyond = beyond_on(scale, vouched, p.month as u64);
+            MarkedShown { answer, beyond }
         }
-        MomentAnswer::Refused(why) => ShownAnswer::Refused(why),
+        MomentAnswer::Refused(why) => MarkedShown {
+            answer: ShownAnswer::Refused(why),
+            beyond: false,
+        },
     }
 }
 
@@ -495,22 +565,26 @@ pub fn instant_showing<'a>(
     count: usize,
     months: &'a [u32; 64],
     offsets: &'a [i32; 64],
+    vouched: u32,
     micro: u64,
-) -> InstantAnswer
-    ensures { λ a. ⌜ a ≡ instantShowing (tabled count (now (months .entry)) (now (offsets .entry))) scale micro ⌝ }
+) -> MarkedInstant
+    ensures { λ a. ⌜ a ≡ instantShowingMarked (vouchedTo vouched (tabled count (now (months .entry)) (now (offsets .entry)))) scale micro ⌝ }
 {
     if micro < Scale::FIRST {
-        return InstantAnswer::Refused(Refusal::Range);
+        return refused_instant(Refusal::Range);
     }
     if Scale::LAST < micro {
-        return InstantAnswer::Refused(Refusal::Range);
+        return refused_instant(Refusal::Range);
     }
     let p = place_showing(micro);
     let l = labels::label_of(p);
     let near = scale.near(count, months, offsets, p.month);
     let here = near.here;
     if labels::minute_length(p.days, here, near.next, l) <= l.second {
-        return InstantAnswer::Refused(Refusal::NoSecond);
+        return refused_instant(Refusal::NoSecond);
     }
-    InstantAnswer::At(scale.instant(micro, here))
+    MarkedInstant {
+        answer: InstantAnswer::At(scale.instant(micro, here)),
+        beyond: beyond_on(scale, vouched, p.month as u64),
+    }
 }

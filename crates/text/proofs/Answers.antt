@@ -1,6 +1,6 @@
 -- The calls' answers from those of `stamp`.
 -- Assumes nothing.
-use mathlib.Core.Path.{_≡_, ap, _∙_}
+use mathlib.Core.Path.{_≡_, refl, ap, _∙_}
 use mathlib.Core.Bool.{true}
 use mathlib.Core.List.{[], _∷_}
 use Prim.Native.Nat.{ℕ}
@@ -13,7 +13,9 @@ use Rattle.answer.specs.Refusals.{refusing}
 use Rattle.answer.proofs.Orders.{refusing-map}
 use Rattle.months.proofs.Laws.{length-most}
 use Rattle.leap.specs.declared.Table.{Table}
-use Rattle.leap.specs.Leap.{accepted}
+use Rattle.leap.specs.Leap.{vouchedTo, accepted}
+use Rattle.pictures.specs.declared.FieldsAnswer.{FieldsAnswer}
+use Rattle.pictures.specs.declared.FieldsAnswer.the-variants.{Picture, NoPicture}
 use Rattle.stamp.specs.declared.Scale.{Scale}
 use Rattle.labels.specs.declared.Reading.{Reading}
 use Rattle.stamp.specs.declared.Stamp.{Stamp}
@@ -31,7 +33,7 @@ use Rattle.stamp.proofs.Promise.{stamp-reads}
 use Rattle.text.specs.declared.TextAnswer.{TextAnswer}
 use Rattle.text.specs.declared.TextAnswer.the-variants.{Read, Refused}
 use Rattle.text.specs.Parts.{Plain}
-use Rattle.text.specs.Text.{readAnswer, writeTests}
+use Rattle.text.specs.Text.{readAnswer, fieldsRead, writeTests}
 
 -- ---- reading
 
@@ -42,6 +44,11 @@ asText z (InstantRefused why) = Refused why
 
 pub read-as : (t : Table) (s : Scale) (r : Reading) {a : InstantAnswer} → a ≡ instantIn t s r → asText (stamp s r) a ≡ readAnswer t s r
 read-as t s r e = ap (asText (stamp s r)) e ∙ refusing-map (asText (stamp s r)) InstantRefused (labelTests (offsetsOf t s) (mostSecond s) r) (At (instantFor t s r))
+
+-- the month that a table is vouched for does not count
+pub same-without-month : (t : Table) (s : Scale) (a : FieldsAnswer) → fieldsRead (vouchedTo 0 t) s a ≡ fieldsRead t s a
+same-without-month t s (Picture f) = refl
+same-without-month t s NoPicture = refl
 
 -- ---- writing
 

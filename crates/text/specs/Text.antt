@@ -69,7 +69,7 @@ abbrev pub fieldsRead : Table → Scale → FieldsAnswer → TextAnswer
 fieldsRead t s (Picture f) = readAnswer t s (readingOf f)
 fieldsRead t s NoPicture = Refused SHAPE
 
--- `read_text`: what every call asks first, and then the text
+-- `read_text`, without its mark: what every call asks first, and then the text
 unfoldable pub readText : Table → ℕ → List ℕ → TextAnswer
 readText t k text = refusing Refused (scaleTests t k) (fieldsRead t (scaleOf k) (readFields text))
 
@@ -94,7 +94,7 @@ fieldsOf p digits r =
 abbrev pub textOf : ℕ → ℕ → Reading → List ℕ
 textOf p digits r = pictureText (fieldsOf p digits r)
 
--- `write_text`: what is asked, in this order, and the text
+-- `write_text`, without its mark: what is asked, in this order, and the text
 abbrev pub writeTests : Table → ℤ → ℕ → ℕ → ℕ → List (Bool × Refusal)
 writeTests t x p k digits = (leb p 2 && (leb digits 6 && knownScale k), ASK) ∷ (accepted t, TABLE) ∷ (inRange t (scaleOf k) x, RANGE) ∷ []
 

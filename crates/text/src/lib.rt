@@ -1,11 +1,13 @@
 // Text in three pictures: read on a scale, and written from an instant.
 // `pictures` has the fields of a text and the text of fields; here they are judged, and taken from a stamp.
 ghost use mathlib.Core.Path.{_≡_};
+ghost use mathlib.Core.Bool.{false};
 ghost use Rattle.calendar.specs.Dates.{dateInYear};
 ghost use Rattle.leap.specs.Leap.{tabled};
 ghost use Rattle.pictures.specs.Reading.{readFields};
 ghost use Rattle.text.specs.Parts.{Plain};
-ghost use Rattle.text.specs.Text.{dateOr, monthDayOf, readingOf, fieldsRead, readText, dateAs, fieldsOf, writeText, writeTextAfter};
+ghost use Rattle.text.specs.Text.{dateOr, monthDayOf, readingOf, fieldsRead, dateAs, fieldsOf, writeTextAfter};
+ghost use Rattle.text.specs.Marks.{markedText, readTextMarked, markedWritten, writeTextMarked};
 use answer::Refusal;
 use answer::Written;
 use calendar::MonthDay;
@@ -25,6 +27,53 @@ use stamp::StampAnswer;
 pub enum TextAnswer {
     Read { instant: i64, stamp: Stamp },
     Refused(Refusal),
+}
+
+// Beside each answer stands its mark, as beside those of `stamp`.
+pub struct MarkedText {
+    pub answer: TextAnswer,
+    pub beyond: bool,
+}
+
+pub struct MarkedWritten {
+    pub answer: Written,
+    pub beyond: bool,
+}
+
+// ---- marks
+
+// A stamp that is read has that of its own month, a refusal none.
+fn marked_text(vouched: u32, answer: TextAnswer) -> MarkedText
+    ensures { λ r. ⌜ r ≡ markedText vouched answer ⌝ }
+{
+    let beyond = match answer {
+        TextAnswer::Read { instant: _, stamp } => {
+            let scale = stamp.scale;
+            stamp::beyond_on(scale, vouched, labels::month_of(stamp.reading.label))
+        }
+        TextAnswer::Refused(_) => false,
+    };
+    MarkedText { answer, beyond }
+}
+
+// A call that is refused has written nothing.
+fn not_written(why: Refusal) -> MarkedWritten
+    ensures { λ r. ⌜ r ≡ markedWritten (Written.Refused why) false ⌝ }
+{
+    let answer = Written::Refused(why);
+    let beyond = false;
+    MarkedWritten { answer, beyond }
+}
+
+// For want of room nothing is written either.
+fn marked_written(answer: Written, mark: bool) -> MarkedWritten
+    ensures { λ r. ⌜ r ≡ markedWritten answer mark ⌝ }
+{
+    let beyond = match answer {
+        Written::Wrote(_) => mark,
+        Written::Refused(_) => false,
+    };
+    MarkedWritten { answer, beyond }
 }
 
 // ---- from fields to a reading and back
@@ -125,13 +174,14 @@ fn read_on<'a>(
     }
 }
 
-pub fn read_text(t: Table, scale: u32, text: &[u8]) -> TextAnswer
-    ensures { λ r. ⌜ r ≡ readText t scale (now (text .entry)) ⌝ }
+pub fn read_text(t: Table, scale: u32, text: &[u8]) -> MarkedText
+    ensures { λ r. ⌜ r ≡ readTextMarked t scale (now (text .entry)) ⌝ }
 {
     let count = t.count;
-    match stamp::asked(count, &t.months, &t.offsets, scale) {
-        ScaleAnswer::On(s) => read_on(s, count, &t.months, &t.offsets, text),
-        ScaleAnswer::Refused(why) => TextAnswer::Refused(why),
+    let vouched = t.vouched;
+    match stamp::asked(count, &t.months, &t.offsets, vouched, scale) {
+        ScaleAnswer::On(s) => marked_text(vouched, read_on(s, count, &t.months, &t.offsets, text)),
+        ScaleAnswer::Refused(why) => marked_text(vouched, TextAnswer::Refused(why)),
     }
 }
 
@@ -142,20 +192,22 @@ pub fn write_text(
     scale: u32,
     digits: u32,
     out: &mut [u8],
-) -> Written
-    ensures { λ r. ⌜ (r ≡ writeText t instant picture scale digits (now (out .entry))) × (now (out .exit) ≡ writeTextAfter t instant picture scale digits (now (out .entry))) ⌝ }
+) -> MarkedWritten
+    ensures { λ r. ⌜ (r ≡ writeTextMarked t instant picture scale digits (now (out .entry))) × (now (out .exit) ≡ writeTextAfter t instant picture scale digits (now (out .entry))) ⌝ }
 {
     if 2 < picture {
-        return Written::Refused(Refusal::Ask);
+        return not_written(Refusal::Ask);
     }
     if 6 < digits {
-        return Written::Refused(Refusal::Ask);
+        return not_written(Refusal::Ask);
     }
-    match stamp::stamp_of_in(t.count, &t.months, &t.offsets, instant, scale) {
-        StampAnswer::Stamped(stamp) => pictures::write_fields(
-            fields_of(picture, digits, stamp.reading),
-            out,
-        ),
-        StampAnswer::Refused(why) => Written::Refused(why),
+    let marked = stamp::stamp_of_in(t.count, &t.months, &t.offsets, t.vouched, instant, scale);
+    let stamped = marked.answer;
+    match stamped {
+        StampAnswer::Stamped(stamp) => {
+            let answer = pictures::write_fields(fields_of(picture, digits, stamp.reading), out);
+            marked_written(answer, marked.beyond)
+        }
+        StampAnswer::Refused(why) => not_written(why),
     }
 }

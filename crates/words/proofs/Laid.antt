@@ -1,13 +1,13 @@
 -- A list laid over another place by place, as a loop does it, and the words of a table so laid.
 -- Assumes nothing.
-use mathlib.Core.Path.{_≡_, refl, sym, ap, subst, _∙_}
-use mathlib.Core.List.{List, [], _∷_, _++_, append-nil}
+use mathlib.Core.Path.{_≡_, sym, ap, subst, _∙_}
+use mathlib.Core.List.{List, [], _∷_, _++_, append-assoc, append-nil}
 use Prim.Native.Nat.{ℕ, _+_, _≤_, _<_}
 use native.Mathlib.Nat.{zero-add}
 use native.Mathlib.Numerals.{add-one}
 use native.Mathlib.Omega.{arith}
-use lib.ListN.{length, getD, set, take, length-take, length-append, drop-of-length-le}
-use lib.Seq.{take-all, take-suc}
+use lib.ListN.{length, getD, set, take, drop, length-take, length-append, drop-of-length-le}
+use lib.Seq.{take-all, take-suc, drop-append-seam}
 use Rattle.laws.specs.Placed.{place}
 use Rattle.laws.proofs.Placed.{place-zero, place-none, place-one, place-then, length-place}
 
@@ -46,16 +46,17 @@ module _ {A : Type 0} where
   pub place-whole : (old new : List A) → length new ≡ length old → place old 0 new ≡ new
   place-whole old new e = place-zero old new ∙ ap (λ (l : List A). new ++ l) (drop-of-length-le old {i = length new} (omega arith)) ∙ append-nil new
 
--- a count, months and the words of offsets, laid one after the other over as many zeros
-module _ (n : ℕ) (months words zeros : List ℕ) (m : length months ≡ 64) (w : length words ≡ 64) (z : length zeros ≡ 129) where
-  pub table-laid : (o : List ℕ) {a b : List ℕ} → o ≡ place zeros 0 (n ∷ []) → a ≡ place o 1 months → b ≡ place a 65 words → b ≡ n ∷ (months ++ words)
-  table-laid o e f g =
-      let p : 1 ≡ 0 + length (n ∷ []) = refl in
-      let q : 65 ≡ 0 + length (n ∷ months) = omega arith in
-      let long : length (n ∷ (months ++ words)) ≡ length zeros = omega (arith, length-append months words) in
-      g
-      ∙ place-then zeros 0 (n ∷ months) words {j = 65} (f ∙ place-then zeros 0 (n ∷ []) months {j = 1} e p (omega arith)) q (omega arith)
-      ∙ place-whole zeros (n ∷ (months ++ words)) long
+-- months and the words of offsets, laid one after the other over as many zeros between the first word and the last
+module _ (first last : ℕ) (months words zeros : List ℕ) (m : length months ≡ 64) (w : length words ≡ 64) (z : length zeros ≡ 128) where
+  pub table-laid : {a b : List ℕ} → a ≡ place (first ∷ (zeros ++ last ∷ [])) 1 months → b ≡ place a 65 words → b ≡ first ∷ (months ++ (words ++ last ∷ []))
+  table-laid e f =
+      let p : 65 ≡ 1 + length months = omega arith in
+      let q : 1 + length (months ++ words) ≡ length (first ∷ zeros) = omega (arith, length-append months words) in
+      f
+      ∙ place-then (first ∷ (zeros ++ last ∷ [])) 1 months words {j = 65} e p (omega (arith, length-append zeros (last ∷ [])))
+      ∙ ap (λ (k : ℕ). first ∷ ((months ++ words) ++ drop k (first ∷ (zeros ++ last ∷ [])))) q
+      ∙ ap (λ (l : List ℕ). first ∷ ((months ++ words) ++ l)) (drop-append-seam (first ∷ zeros) (last ∷ []))
+      ∙ ap (λ (l : List ℕ). first ∷ l) (append-assoc months words (last ∷ []))
 
 -- the length stays
 pub length-laid : (o : List ℕ) (i : ℕ) (new : List ℕ) {a : List ℕ} → i + length new ≤ length o → a ≡ place o i new → length a ≡ length o

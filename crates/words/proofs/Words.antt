@@ -1,22 +1,22 @@
 -- The words of a table and the table of its words, each by its elements; they undo each other.
 -- Assumes nothing.
 use mathlib.Core.Path.{_≡_, refl, sym, ap, ap₂, _∙_}
-use mathlib.Core.List.{List, [], _∷_, _++_, map, append-nil}
+use mathlib.Core.List.{List, [], _∷_, _++_, map, append-nil, append-assoc}
 use Prim.Native.Nat.{ℕ, zero, suc, _+_, _%_, _<_}
 use native.Mathlib.Nat.{add-zero, zero-add}
 use native.Mathlib.Omega.{arith}
 use lib.IntN.{ℤ, pos}
-use lib.ListN.{length, getD, length-map, List·getD-append}
+use lib.ListN.{length, getD, length-append, length-map, List·getD-append}
 use lib.Seq.{ext-getD, getD-append-add}
 use mir.Syntax.{w32}
 use mir.Val.{Fits, SFits}
 use mir.Facts.{toZ-ofZ, ofZ-toZ}
 use Rattle.leap.specs.declared.Table.{Table}
-use Rattle.leap.specs.Leap.{tabled}
+use Rattle.leap.specs.Leap.{tabled, vouchedTo}
 use Rattle.words.specs.Words.{offsetFrom, offsetWord, wordsAt, tableFrom, tableWords, Held, Struct, Undone}
 
-pub same-table : {n n′ : ℕ} {ms ms′ : List ℕ} {os os′ : List ℤ} → n ≡ n′ → ms ≡ ms′ → os ≡ os′ → tabled n ms os ≡ tabled n′ ms′ os′
-same-table {n′ = n′} {ms} {os = os} p q r = ap (λ (x : ℕ). tabled x ms os) p ∙ ap₂ (λ (m : List ℕ) (o : List ℤ). tabled n′ m o) q r
+pub same-table : {n n′ : ℕ} {ms ms′ : List ℕ} {os os′ : List ℤ} {v v′ : ℕ} → n ≡ n′ → ms ≡ ms′ → os ≡ os′ → v ≡ v′ → vouchedTo v (tabled n ms os) ≡ vouchedTo v′ (tabled n′ ms′ os′)
+same-table p q r s = λ i. record { count = p i; months = q i; offsets = r i; vouched = s i }
 
 -- ---- words from a place on
 
@@ -75,20 +75,25 @@ back t h =
     let offsets = map offsetWord (t .offsets) in
     let few : n ≡ t .count = omega (arith, h .few) in
     let long : length offsets ≡ 64 = length-map (t .offsets) offsetWord ∙ h .offsets-long in
+    let last = t .vouched ∷ [] in
     let sixty-five : length (n ∷ t .months) ≡ 65 = omega (arith, h .months-long) in
-    same-table few (at-among (n ∷ []) (t .months) offsets refl (h .months-long))
-    (ap (λ (l : List ℕ). map offsetFrom (wordsAt 65 64 (n ∷ (t .months ++ l)))) (sym (append-nil offsets))
-    ∙ ap (map offsetFrom) (at-among (n ∷ t .months) offsets [] sixty-five long)
-    ∙ offsets-back (t .offsets) (h .offsets-fit))
+    let before = n ∷ (t .months ++ offsets) in
+    let end : 129 ≡ length before + 0 = omega (arith, length-append (t .months) offsets, h .months-long) in
+    same-table few (at-among (n ∷ []) (t .months) (offsets ++ last) refl (h .months-long))
+    (ap (map offsetFrom) (at-among (n ∷ t .months) offsets last sixty-five long) ∙ offsets-back (t .offsets) (h .offsets-fit))
+    (ap (λ (l : List ℕ). getD (n ∷ l) 129 0) (sym (append-assoc (t .months) offsets last))
+    ∙ ap (λ (j : ℕ). getD (before ++ last) j 0) end
+    ∙ getD-append-add before last 0 0)
 
 forth : (words : List ℕ) → Struct words → tableWords (tableFrom words) ≡ words
 unfolding tableFrom tableWords wordsAt
 forth words h =
     let n = getD words 0 0 in
     let few : n % 4294967296 ≡ n = omega (arith, h .words-fit 0 .fits) in
-    ap₂ (λ (x : ℕ) (l : List ℕ). x ∷ (wordsAt 1 64 words ++ l)) few (words-kept 65 64 words (h .words-fit))
-    ∙ ap (λ (l : List ℕ). n ∷ l) (at-join 1 64 64 words)
-    ∙ ap (wordsAt 0 129) (sym (append-nil words))
+    ap₂ (λ (x : ℕ) (l : List ℕ). x ∷ (wordsAt 1 64 words ++ (l ++ wordsAt 129 1 words))) few (words-kept 65 64 words (h .words-fit))
+    ∙ ap (λ (l : List ℕ). n ∷ (wordsAt 1 64 words ++ l)) (at-join 65 64 1 words)
+    ∙ ap (λ (l : List ℕ). n ∷ l) (at-join 1 64 65 words)
+    ∙ ap (wordsAt 0 130) (sym (append-nil words))
     ∙ at-among [] words [] refl (h .long)
 
 pub undone : Undone

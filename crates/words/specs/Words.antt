@@ -1,4 +1,5 @@
--- A table as C has it, 129 words of 32 bits: the count, 64 months and 64 offsets, an offset's word having the bits of the signed number.
+-- A table as C has it, 130 words of 32 bits: the count, 64 months, 64 offsets, an offset's word having the bits of the signed number, and the number of the month
+-- that it is vouched for.
 -- Assumes nothing.
 use mathlib.Core.Path.{_≡_}
 use mathlib.Core.List.{List, [], _∷_, _++_, map}
@@ -8,7 +9,7 @@ use lib.ListN.{length, getD, replicate}
 use mir.Syntax.{w32}
 use mir.Val.{toZ, ofZ, Fits, SFits}
 use Rattle.leap.specs.declared.Table.{Table}
-use Rattle.leap.specs.Leap.{tabled}
+use Rattle.leap.specs.Leap.{tabled, vouchedTo}
 use Rattle.leap.specs.Readers.{noTable}
 
 -- the signed number with these bits, and the bits of a signed number
@@ -24,11 +25,11 @@ wordsAt i zero words = []
 wordsAt i (suc n) words = getD words i 0 ∷ wordsAt (i + 1) n words
 
 unfoldable pub tableFrom : List ℕ → Table
-tableFrom words = tabled (getD words 0 0) (wordsAt 1 64 words) (map offsetFrom (wordsAt 65 64 words))
+tableFrom words = vouchedTo (getD words 129 0) (tabled (getD words 0 0) (wordsAt 1 64 words) (map offsetFrom (wordsAt 65 64 words)))
 
 -- a word has 32 bits, and so a count its lowest 32
 unfoldable pub tableWords : Table → List ℕ
-tableWords t = (t .count % 4294967296) ∷ (t .months ++ map offsetWord (t .offsets))
+tableWords t = (t .count % 4294967296) ∷ (t .months ++ (map offsetWord (t .offsets) ++ t .vouched ∷ []))
 
 -- ---- the two undo each other
 
@@ -41,11 +42,11 @@ pub record Held (t : Table) : Type 0 where
 
 -- a struct as a program has it
 pub record Struct (words : List ℕ) : Type 0 where
-  pub long : length words ≡ 129
+  pub long : length words ≡ 130
   pub words-fit : (k : ℕ) → Fits w32 (getD words k 0)
 
 pub record Undone : Type 0 where
   pub table-back : (t : Table) → Held t → tableFrom (tableWords t) ≡ t
   pub words-back : (words : List ℕ) → Struct words → tableWords (tableFrom words) ≡ words
   -- the all-zero table of a refusal is a struct of zeros
-  pub zeros : tableWords noTable ≡ replicate 129 0
+  pub zeros : tableWords noTable ≡ replicate 130 0

@@ -1,4 +1,4 @@
-// A leap table as C has it, 129 words of 32 bits, both ways.
+// A leap table as C has it, 130 words of 32 bits, both ways.
 ghost use mathlib.Core.Path.{_≡_};
 ghost use mathlib.Core.List.{map};
 ghost use lib.ListN.{length};
@@ -24,7 +24,7 @@ fn count_of(word: u32) -> usize
     word as usize
 }
 
-fn months_of(words: &[u32; 129]) -> [u32; 64]
+fn months_of(words: &[u32; 130]) -> [u32; 64]
     ensures { λ r. ⌜ r ≡ wordsAt 1 64 (now (words .entry)) ⌝ }
 {
     let mut months = [0; 64];
@@ -36,7 +36,7 @@ fn months_of(words: &[u32; 129]) -> [u32; 64]
     months
 }
 
-fn offsets_of(words: &[u32; 129]) -> [i32; 64]
+fn offsets_of(words: &[u32; 130]) -> [i32; 64]
     ensures { λ r. ⌜ r ≡ map offsetFrom (wordsAt 65 64 (now (words .entry))) ⌝ }
 {
     let mut offsets = [0; 64];
@@ -48,13 +48,13 @@ fn offsets_of(words: &[u32; 129]) -> [i32; 64]
     offsets
 }
 
-pub fn table_of(words: &[u32; 129]) -> Table
+pub fn table_of(words: &[u32; 130]) -> Table
     ensures { λ r. ⌜ r ≡ tableFrom (now (words .entry)) ⌝ }
 {
     let count = count_of(words[0]);
     let months = months_of(words);
     let offsets = offsets_of(words);
-    leap::tabled(count, &months, &offsets)
+    leap::tabled(count, &months, &offsets, words[129])
 }
 
 // ---- and back
@@ -68,8 +68,8 @@ fn word_of(offset: i32) -> u32
     offset as u32
 }
 
-fn store_months(months: [u32; 64], out: &mut [u32; 129])
-    requires { ⌜ length (now out) ≡ 129 ⌝ }
+fn store_months(months: [u32; 64], out: &mut [u32; 130])
+    requires { ⌜ length (now out) ≡ 130 ⌝ }
     ensures { λ _. ⌜ (length months ≡ 64) × (now (out .exit) ≡ place (now (out .entry)) 1 months) ⌝ }
 {
     let mut k = 0;
@@ -79,8 +79,8 @@ fn store_months(months: [u32; 64], out: &mut [u32; 129])
     }
 }
 
-fn store_offsets(offsets: [i32; 64], out: &mut [u32; 129])
-    requires { ⌜ length (now out) ≡ 129 ⌝ }
+fn store_offsets(offsets: [i32; 64], out: &mut [u32; 130])
+    requires { ⌜ length (now out) ≡ 130 ⌝ }
     ensures { λ _. ⌜ (length offsets ≡ 64) × (now (out .exit) ≡ place (now (out .entry)) 65 (map offsetWord offsets)) ⌝ }
 {
     let mut k = 0;
@@ -91,13 +91,14 @@ fn store_offsets(offsets: [i32; 64], out: &mut [u32; 129])
     }
 }
 
-pub fn store_table(t: Table, out: &mut [u32; 129])
+pub fn store_table(t: Table, out: &mut [u32; 130])
     ensures { λ _. ⌜ now (out .exit) ≡ tableWords t ⌝ }
 {
     let months = t.months;
     let offsets = t.offsets;
-    *out = [0; 129];
+    *out = [0; 130];
     out[0] = (t.count % 4294967296) as u32;
+    out[129] = t.vouched;
     store_months(months, out);
     store_offsets(offsets, out);
 }

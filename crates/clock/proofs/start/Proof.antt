@@ -1,18 +1,11 @@
--- `clock::start` meets its contract.
+-- `clock::start` meets its contract: the mark of what is answered stands beside it.
 -- Assumes nothing.
 use borrow.Author.Needs.{needs}
-use Rattle.laws.proofs.Branches.{fails, holds}
-use Rattle.answer.proofs.Orders.{refused, passed}
-use Rattle.clock.specs.Clock.{start}
 use Rattle.clock.proofs.start.Statement.{statement}
 use Rattle.clock.proofs.start.Tie as tie
 
+returns : tie.Need-returns
+returns c = rw (c .beyond-tick .ensures, c .before .started .ensures)
+
 pub start-spec : {M : Type 1} → statement M
-unfolding start
-start-spec =
-    tie.close
-    (tie.spec
-    (λ c κs. search needs)
-    (λ c. refused _ _ (fails (c .before .is-accepted-in .ensures) (c .if1 .taken)))
-    (λ c κs. search needs)
-    (λ c. passed _ (holds (c .before .before .is-accepted-in .ensures) (c .before .if1 .left)) (c .shown .ensures)))
+start-spec = tie.close (tie.spec (λ c κs. search needs) (λ c κs. search needs) returns)

@@ -1,21 +1,11 @@
--- `clock::tick` meets its contract: the table is judged first, and then the label.
+-- `clock::tick` meets its contract: the mark of what is answered stands beside it.
 -- Assumes nothing.
 use borrow.Author.Needs.{needs}
-use Rattle.laws.proofs.Branches.{fails, holds}
-use Rattle.answer.proofs.Orders.{refused, passed}
-use Rattle.clock.specs.Clock.{tick}
 use Rattle.clock.proofs.tick.Statement.{statement}
 use Rattle.clock.proofs.tick.Tie as tie
 
 returns : tie.Need-returns
-unfolding tick
-returns c = refused _ _ (fails (c .before .is-accepted-in .ensures) (c .if1 .taken))
-
-returns-2 : tie.Need-returns-2
-unfolding tick
-returns-2 c =
-    let e = c .before .before .before .before in
-    passed _ (holds (e .before .is-accepted-in .ensures) (e .if1 .left)) (c .tick-in .ensures)
+returns c = rw (c .beyond-tick .ensures, c .before .ticked .ensures)
 
 pub tick-spec : {M : Type 1} → statement M
-tick-spec = tie.close (tie.spec (λ c κs. search needs) returns (λ c κs. search needs) returns-2)
+tick-spec = tie.close (tie.spec (λ c κs. search needs) (λ c κs. search needs) returns)

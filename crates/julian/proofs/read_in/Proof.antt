@@ -1,6 +1,6 @@
 -- `julian::read_in` meets its contract: the pair's tests in their order, and then what the scale is to show.
 -- Assumes nothing.
-use mathlib.Core.Path.{_≡_, sym, ap, subst, _∙_}
+use mathlib.Core.Path.{_≡_, refl, sym, ap, subst, _∙_}
 use mathlib.Core.Bool.{true}
 use Prim.Native.Nat.{_+_, _*_}
 use native.Mathlib.Omega.{arith}
@@ -8,11 +8,17 @@ use borrow.Author.Needs.{needs}
 use lib.Dec.{T}
 use Rattle.laws.proofs.Branches.{fails, holds}
 use Rattle.answer.proofs.Orders.{refused, passed}
-use Rattle.leap.specs.Leap.{tabled}
-use Rattle.stamp.specs.Back.{instantShowing}
+use Rattle.leap.specs.declared.Table.{Table}
+use Rattle.leap.specs.Leap.{tabled, vouchedTo}
+use Rattle.labels.specs.Labels.{uniform}
+use Rattle.labels.specs.Back.{readingAt}
+use Rattle.stamp.specs.declared.InstantAnswer.{InstantAnswer}
+use Rattle.stamp.specs.declared.MarkedInstant.{MarkedInstant}
+use Rattle.stamp.specs.Marks.{beyondReading, markedInstant, instantShowingMarked}
 use Rattle.julian.specs.Fraction.{day, isFraction}
 use Rattle.julian.specs.Midnight.{isMidnight, midnightInYears}
 use Rattle.julian.specs.Dates.{microRead}
+use Rattle.julian.specs.Parts.{readIn, readInMarked}
 use Rattle.julian.proofs.read_in.Statement.{statement}
 use Rattle.julian.proofs.read_in.Tie as tie
 
@@ -36,18 +42,32 @@ begun c = first (second c) .before .before
 three : (c : tie.Else3) → midnightInYears (begun c .args .date .midnight) ≡ true
 three c = holds (c .before .in-years .ensures) (c .if3 .left)
 
--- ---- and where one failed
+-- ---- an answer's mark is beside it
+
+abbrev tableAt : tie.Start → Table
+tableAt c = vouchedTo (c .args .vouched) (tabled (c .args .count) (c .args .months .now) (c .args .offsets .now))
+
+marked : (c : tie.Start) {a : InstantAnswer} {m : MarkedInstant} → m ≡ markedInstant a (beyondReading (tableAt c) (c .args .scale) (readingAt uniform (microRead (c .args .date)))) → a ≡ readIn (tableAt c) (c .args .scale) (c .args .date) → m ≡ readInMarked (tableAt c) (c .args .scale) (c .args .date)
+marked c p q = p ∙ ap (λ a. markedInstant a (beyondReading (tableAt c) (c .args .scale) (readingAt uniform (microRead (c .args .date))))) q
+
+-- ---- where a test failed
 
 returns : tie.Need-returns
-returns c = refused _ _ (fails (c .before .is-midnight .ensures) (c .if1 .taken))
+returns c =
+    let e = c .before .before in
+    marked (e .before) (c .refused-instant .ensures) (refused _ _ (fails (e .is-midnight .ensures) (c .before .if1 .taken)))
 
 returns-2 : tie.Need-returns-2
-returns-2 c = passed _ (one (c .before .before)) (refused _ _ (fails (c .before .is-fraction .ensures) (c .if2 .taken)))
+returns-2 c =
+    let e = c .before .before in
+    let o = e .before in
+    marked (o .before .before) (c .refused-instant2 .ensures) (passed _ (one o) (refused _ _ (fails (e .is-fraction .ensures) (c .before .if2 .taken))))
 
 returns-3 : tie.Need-returns-3
 returns-3 c =
-    let e = c .before .before in
-    passed _ (one (first e)) (passed _ (two e) (refused _ _ (fails (c .before .in-years .ensures) (c .if3 .taken))))
+    let i = c .before .before in
+    let e = i .before in
+    marked (first e .before .before) (c .refused-instant3 .ensures) (passed _ (one (first e)) (passed _ (two e) (refused _ _ (fails (i .in-years .ensures) (c .before .if3 .taken)))))
 
 -- ---- what is shown
 
@@ -64,19 +84,22 @@ micro-is c = omega (arith, c .before .day-number .ensures, c .micros-of .ensures
 returns-4 : tie.Need-returns-4
 returns-4 c =
     let e = c .before .before .before in
-    let a = begun e .args in
-    passed _ (one (first (second e)))
-    (passed _ (two (second e))
-    (passed _ (three e) (c .instant-showing .ensures ∙ ap (instantShowing (tabled (a .count) (a .months .now) (a .offsets .now)) (a .scale)) (micro-is (c .before)))))
+    let a = begun e in
+    marked a
+    (c .instant-showing .ensures ∙ ap (instantShowingMarked (tableAt a) (a .args .scale)) (micro-is (c .before)))
+    (passed _ (one (first (second e))) (passed _ (two (second e)) (passed _ (three e) refl)))
 
 pub read-in-spec : {M : Type 1} → statement M
 read-in-spec =
     tie.close
     (tie.spec
     (λ c κs. search needs)
+    (λ c κs. search needs)
     returns
     (λ c κs. search needs)
+    (λ c κs. search needs)
     returns-2
+    (λ c κs. search needs)
     (λ c κs. search needs)
     returns-3
     day-number-requires

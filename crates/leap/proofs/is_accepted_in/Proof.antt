@@ -1,10 +1,13 @@
--- The count, and then every place.
+-- The count, then every place, then the month.
 -- Assumes nothing.
+use mathlib.Core.Path.{_≡_, _∙_}
 use native.Mathlib.Omega.{arith}
 use borrow.Author.Needs.{needs}
 use borrow.Author.Tests.{le-leb, lt-leb}
-use Rattle.laws.proofs.Branches.{and-no, and-rest}
-use Rattle.leap.specs.Leap.{accepted}
+use Rattle.laws.proofs.Branches.{and-no, and-rest, fails, holds}
+use Rattle.laws.specs.Tests.{allBelow}
+use Rattle.leap.specs.Leap.{tabled, vouchedTo, placeRight, accepted}
+use Rattle.leap.proofs.Places.{same-places}
 use Rattle.leap.proofs.is_accepted_in.Statement.{statement}
 use Rattle.leap.proofs.is_accepted_in.Tie as tie
 
@@ -17,13 +20,33 @@ unfolding accepted
 returns-2 c =
     and-rest (le-leb _ _ (c .before .if1 .left)) (and-no _ (lt-leb (c .before .before .args .count) 64 (omega arith)))
 
-all-right-requires : tie.Need-all-right-requires
-all-right-requires c κs = search needs
+-- every place, as the definition has it of the table with its month
+placed : (c : tie.After-all-right) → let a = c .before .before .before .args in c .all-right .result ≡ allBelow (placeRight (vouchedTo (a .vouched) (tabled (a .count) (a .months .now) (a .offsets .now)))) 64
+placed c = c .all-right .ensures ∙ same-places _ _ 64
 
 returns-3 : tie.Need-returns-3
 unfolding accepted
 returns-3 c =
-    and-rest (le-leb _ _ (c .before .before .if1 .left)) (and-rest (le-leb _ _ (c .before .if2 .left)) (c .all-right .ensures))
+    let e = c .before .before in
+    and-rest (le-leb _ _ (e .before .if1 .left)) (and-rest (le-leb _ _ (e .if2 .left)) (and-no _ (fails (placed (c .before)) (c .if3 .taken))))
+
+returns-4 : tie.Need-returns-4
+unfolding accepted
+returns-4 c =
+    let a = c .before .before in
+    let e = a .before .before in
+    and-rest (le-leb _ _ (e .before .if1 .left))
+    (and-rest (le-leb _ _ (e .if2 .left)) (and-rest (holds (placed (a .before)) (a .if3 .left)) (c .vouched-right .ensures)))
 
 pub is-accepted-in-spec : {M : Type 1} → statement M
-is-accepted-in-spec = tie.close (tie.spec returns returns-2 all-right-requires returns-3)
+is-accepted-in-spec =
+    tie.close
+    (tie.spec
+    returns
+    returns-2
+    (λ c κs. search needs)
+    returns-3
+    (λ c. search needs)
+    (λ c. search needs)
+    (λ c κs. search needs)
+    returns-4)

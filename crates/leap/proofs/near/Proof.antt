@@ -6,13 +6,13 @@ use borrow.Author.Needs.{needs, sfits-of}
 use lib.IntN.{ℤ, pos}
 use lib.ListN.{getD}
 use mir.Facts.{toZ-ofZ}
-use Rattle.leap.specs.Leap.{lastBegun, top, offsetAt}
+use Rattle.leap.specs.Leap.{lastBegun, top, offsetIn}
 use Rattle.leap.proofs.Begun.{begun-within}
 use Rattle.leap.proofs.near.Statement.{statement}
 use Rattle.leap.proofs.near.Tie as tie
 
 returns : tie.Need-returns
-unfolding offsetAt
+unfolding offsetIn
 returns c =
     let a = c .before .before .before .before .before .args in
     let begun = lastBegun (a .months .now) in

@@ -15,7 +15,7 @@ returns : tie.Need-returns
 returns c =
     let i = c .before .before in
     let s = i .before .before in
-    absurd (not-refused (s .args .t) (s .args .l) (s .pre .0) (s .pre .1) (sym (i .instant-of .ensures) ∙ c .enum-told .given .1))
+    absurd (not-refused (s .args .t) (s .args .l) (s .pre .0) (s .pre .1) (sym (ap (λ v. v .answer) (i .instant-of .ensures)) ∙ c .enum-told .given .1))
 
 returns-2 : tie.Need-returns-2
 returns-2 c =
@@ -28,7 +28,7 @@ returns-2 c =
     let i = known .before .before .before in
     let s = i .before .before in
     let a = s .args in
-    let e = sym (i .instant-of .ensures) ∙ known .before .a .given .1 in
+    let e = sym (ap (λ v. v .answer) (i .instant-of .ensures)) ∙ known .before .a .given .1 in
     let lent = toZ-ofZ (record { sfits = known .known-told .given .0 .1 }) in
     let shown = toZ-ofZ (record { sfits = number .before .seconds .ok }) ∙ number .before .seconds .ensures ∙ ap (λ x. quotZ x (pos 1000000)) lent in
     row-placed (a .t) (a .l) (a .out .now) (a .at) (s .pre .2)

@@ -1,6 +1,6 @@
 -- What is stored and what is still to come are all the lines.
 -- Assumes nothing.
-use mathlib.Core.Path.{sym, _∙_}
+use mathlib.Core.Path.{sym, ap, _∙_}
 use native.Mathlib.Omega.{arith}
 use borrow.Author.Needs.{needs}
 use Rattle.listing.proofs.Rows.{Rowed, rowed-none, rowed-more, rowed-last, rowed-end}
@@ -34,7 +34,7 @@ returns c =
     let row = tick .before .before .before in
     let l = row .before .before .before in
     let a = l .before .before .args in
-    rowed-last (a .t) (a .first) (a .count) (a .from) (a .out .now) (l .loop .out) (l .loop .l) (l .loop .at) (l .loop .left) (l .loop .inv) (omega arith) (row .put-row .ensures .0) (row .put-row .ensures .1) (sym (tick .tick .ensures) ∙ c .enum-told .given .1)
+    rowed-last (a .t) (a .first) (a .count) (a .from) (a .out .now) (l .loop .out) (l .loop .l) (l .loop .at) (l .loop .left) (l .loop .inv) (omega arith) (row .put-row .ensures .0) (row .put-row .ensures .1) (sym (ap (λ v. v .answer) (tick .tick .ensures)) ∙ c .enum-told .given .1)
 
 loop-again : tie.Need-loop-again Inv-loop μ-loop
 loop-again c =
@@ -42,7 +42,7 @@ loop-again c =
     let row = tick .before .before .before in
     let l = row .before .before .before in
     let a = l .before .before .args in
-    rowed-more (a .t) (a .first) (a .count) (a .from) (a .out .now) (l .loop .out) (l .loop .l) (l .loop .at) (l .loop .left) (l .loop .inv) (omega arith) (row .put-row .ensures .0) (row .put-row .ensures .1) (sym (tick .tick .ensures) ∙ c .before .a .given .1)
+    rowed-more (a .t) (a .first) (a .count) (a .from) (a .out .now) (l .loop .out) (l .loop .l) (l .loop .at) (l .loop .left) (l .loop .inv) (omega arith) (row .put-row .ensures .0) (row .put-row .ensures .1) (sym (ap (λ v. v .answer) (tick .tick .ensures)) ∙ c .before .a .given .1)
 
 same-length-2 : tie.Need-same-length-2 Inv-loop μ-loop
 same-length-2 c = let e = c .before .loop .inv .stored .size in search needs

@@ -1,6 +1,6 @@
 -- In the order of the definition.
 -- Assumes nothing.
-use mathlib.Core.Path.{_≡_, sym, _∙_}
+use mathlib.Core.Path.{_≡_, sym, ap, _∙_}
 use native.Mathlib.Omega.{arith}
 use borrow.Author.Needs.{needs}
 use borrow.Author.Tests.{le-leb, lt-leb, eq-eqb, ne-eqb}
@@ -32,7 +32,7 @@ unfolding stampLine
 returns-3 c =
     let u = c .before .before in
     let s = u .before .before .before .args .line .now in
-    passed _ (le-leb _ _ (u .before .if1 .left)) (passed _ (eq-eqb (length (before 46 s)) (length s) (sym (point u) ∙ c .before .if2 .left)) (c .read-text .ensures))
+    passed _ (le-leb _ _ (u .before .if1 .left)) (passed _ (eq-eqb (length (before 46 s)) (length s) (sym (point u) ∙ c .before .if2 .left)) (ap (λ v. v .answer) (c .read-text .ensures)))
 
 pub stamp-line-spec : {M : Type 1} → statement M
 stamp-line-spec =

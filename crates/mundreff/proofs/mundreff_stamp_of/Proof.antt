@@ -5,11 +5,20 @@ use lib.IntN.{ℤ}
 use mir.Facts.{toZ-ofZ}
 use Rattle.leap.specs.declared.Table.{Table}
 use borrow.Author.Needs.{needs}
-use Rattle.stamp.specs.Stamps.{stampOf}
-use Rattle.mundreff.specs.Answers.{stampNumbers}
+use Rattle.stamp.specs.Marks.{stampOfMarked}
+use Rattle.mundreff.specs.Answers.{stampWithMarks}
 use Rattle.mundreff.proofs.Results.{said}
 use Rattle.mundreff.proofs.mundreff_stamp_of.Statement.{statement}
 use Rattle.mundreff.proofs.mundreff_stamp_of.Tie as tie
+
+returns : tie.Need-returns
+returns c =
+    let z = c .before .before .before in
+    let t = z .before in
+    let a = t .before .args in
+    said stampWithMarks (c .give-stamp .ensures)
+    (z .stamp-of .ensures
+    ∙ ap₂ (λ (u : Table) (x : ℤ). stampOfMarked u x (a .scale)) (t .table-of .ensures) (toZ-ofZ (t .before .fits .instant)))
 
 pub mundreff-stamp-of-spec : {M : Type 1} → statement M
 mundreff-stamp-of-spec =
@@ -18,9 +27,4 @@ mundreff-stamp-of-spec =
     (λ c κs. search needs)
     (λ c κs. search needs)
     (λ c κs. search needs)
-    (λ c.
-    let t = c .before .before .before in
-    let a = t .before .args in
-    said stampNumbers (c .give-stamp .ensures)
-    (c .before .before .stamp-of .ensures
-    ∙ ap₂ (λ (u : Table) (x : ℤ). stampOf u x (a .scale)) (t .table-of .ensures) (toZ-ofZ (t .before .fits .instant)))))
+    returns)

@@ -2,11 +2,17 @@
 -- Assumes nothing.
 use mathlib.Core.Path.{ap₂, _∙_}
 use borrow.Author.Needs.{needs}
-use Rattle.clock.specs.Clock.{tick}
-use Rattle.mundreff.specs.Answers.{labelNumbers}
+use Rattle.clock.specs.Marks.{tickMarked}
+use Rattle.mundreff.specs.Answers.{labelWithMarks}
 use Rattle.mundreff.proofs.Results.{said}
 use Rattle.mundreff.proofs.mundreff_tick_in_place.Statement.{statement}
 use Rattle.mundreff.proofs.mundreff_tick_in_place.Tie as tie
+
+returns : tie.Need-returns
+returns c =
+    let t = c .before .before .before in
+    let l = t .before in
+    said labelWithMarks (c .give-label .ensures) (t .tick .ensures ∙ ap₂ tickMarked (l .before .before .table-of .ensures) (l .label-of .ensures))
 
 pub mundreff-tick-in-place-spec : {M : Type 1} → statement M
 mundreff-tick-in-place-spec =
@@ -16,7 +22,4 @@ mundreff-tick-in-place-spec =
     (λ c κs. search needs)
     (λ c κs. search needs)
     (λ c κs. search needs)
-    (λ c.
-    let t = c .before .before in
-    let l = t .before in
-    said labelNumbers (c .give-label .ensures) (t .tick .ensures ∙ ap₂ tick (l .before .before .table-of .ensures) (l .label-of .ensures))))
+    returns)

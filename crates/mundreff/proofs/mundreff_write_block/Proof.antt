@@ -9,6 +9,15 @@ use Rattle.mundreff.proofs.Results.{said}
 use Rattle.mundreff.proofs.mundreff_write_block.Statement.{statement}
 use Rattle.mundreff.proofs.mundreff_write_block.Tie as tie
 
+returns : tie.Need-returns
+returns c =
+    let w = c .before .before .before .before in
+    let t = w .before .before in
+    let buffer = t .before .before .args .out .now in (
+      said writtenResults (c .give-length .ensures) (w .write-block .ensures .0 ∙ ap (λ (u : Table). writeBlock u buffer) (t .table-of .ensures)),
+      w .write-block .ensures .1 ∙ ap (λ (u : Table). writeBlockAfter u buffer) (t .table-of .ensures),
+    )
+
 pub mundreff-write-block-spec : {M : Type 1} → statement M
 mundreff-write-block-spec =
     tie.close
@@ -17,10 +26,4 @@ mundreff-write-block-spec =
     (λ c κs. search needs)
     (λ c κs. search needs)
     (λ c. search needs)
-    (λ c.
-    let w = c .before .before .before .before in
-    let t = w .before .before in
-    let buffer = t .before .before .args .out .now in (
-      said writtenResults (c .give-length .ensures) (w .write-block .ensures .0 ∙ ap (λ (u : Table). writeBlock u buffer) (t .table-of .ensures)),
-      w .write-block .ensures .1 ∙ ap (λ (u : Table). writeBlockAfter u buffer) (t .table-of .ensures),
-    )))
+    returns)

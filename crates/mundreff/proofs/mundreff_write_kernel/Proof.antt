@@ -9,6 +9,15 @@ use Rattle.mundreff.proofs.Results.{said}
 use Rattle.mundreff.proofs.mundreff_write_kernel.Statement.{statement}
 use Rattle.mundreff.proofs.mundreff_write_kernel.Tie as tie
 
+returns : tie.Need-returns
+returns c =
+    let w = c .before .before .before .before in
+    let t = w .before .before in
+    let buffer = t .before .before .args .out .now in (
+      said writtenResults (c .give-length .ensures) (w .write-kernel .ensures .0 ∙ ap (λ (u : Table). writeKernel u buffer) (t .table-of .ensures)),
+      w .write-kernel .ensures .1 ∙ ap (λ (u : Table). writeKernelAfter u buffer) (t .table-of .ensures),
+    )
+
 pub mundreff-write-kernel-spec : {M : Type 1} → statement M
 mundreff-write-kernel-spec =
     tie.close
@@ -17,10 +26,4 @@ mundreff-write-kernel-spec =
     (λ c κs. search needs)
     (λ c κs. search needs)
     (λ c. search needs)
-    (λ c.
-    let w = c .before .before .before .before in
-    let t = w .before .before in
-    let buffer = t .before .before .args .out .now in (
-      said writtenResults (c .give-length .ensures) (w .write-kernel .ensures .0 ∙ ap (λ (u : Table). writeKernel u buffer) (t .table-of .ensures)),
-      w .write-kernel .ensures .1 ∙ ap (λ (u : Table). writeKernelAfter u buffer) (t .table-of .ensures),
-    )))
+    returns)

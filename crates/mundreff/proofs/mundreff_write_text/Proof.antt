@@ -5,11 +5,25 @@ use lib.IntN.{ℤ}
 use mir.Facts.{toZ-ofZ}
 use borrow.Author.Needs.{needs}
 use Rattle.leap.specs.declared.Table.{Table}
-use Rattle.text.specs.Text.{writeText, writeTextAfter}
-use Rattle.answer.specs.Buffers.{writtenResults}
+use Rattle.laws.specs.Settles.{also}
+use Rattle.text.specs.Text.{writeTextAfter}
+use Rattle.text.specs.Marks.{writeTextMarked}
+use Rattle.mundreff.specs.Answers.{lengthWithMarks}
 use Rattle.mundreff.proofs.Results.{said}
 use Rattle.mundreff.proofs.mundreff_write_text.Statement.{statement}
 use Rattle.mundreff.proofs.mundreff_write_text.Tie as tie
+
+returns : tie.Need-returns
+returns c =
+    let m = c .before .before in
+    let w = m .before .before .before in
+    let t = w .before .before in
+    let a = t .before .before .args in
+    let x = toZ-ofZ (t .before .before .fits .instant) in
+    let answer = w .write-text .ensures .0 ∙ ap₂ (λ (u : Table) (x : ℤ). writeTextMarked u x (a .picture) (a .scale) (a .digits) (a .out .now)) (t .table-of .ensures) x in
+    let told = said lengthWithMarks (ap₂ also (c .give-length .ensures) (m .marks-of .ensures)) answer in
+    let left = w .write-text .ensures .1 ∙ ap₂ (λ (u : Table) (x : ℤ). writeTextAfter u x (a .picture) (a .scale) (a .digits) (a .out .now)) (t .table-of .ensures) x in
+    (told, left)
 
 pub mundreff-write-text-spec : {M : Type 1} → statement M
 mundreff-write-text-spec =
@@ -18,13 +32,6 @@ mundreff-write-text-spec =
     (λ c κs. search needs)
     (λ c κs. search needs)
     (λ c κs. search needs)
+    (λ c κs. search needs)
     (λ c. search needs)
-    (λ c.
-    let w = c .before .before .before .before in
-    let t = w .before .before in
-    let a = t .before .before .args in
-    let x = toZ-ofZ (t .before .before .fits .instant) in (
-      said writtenResults (c .give-length .ensures)
-          (w .write-text .ensures .0 ∙ ap₂ (λ (u : Table) (x : ℤ). writeText u x (a .picture) (a .scale) (a .digits) (a .out .now)) (t .table-of .ensures) x),
-      w .write-text .ensures .1 ∙ ap₂ (λ (u : Table) (x : ℤ). writeTextAfter u x (a .picture) (a .scale) (a .digits) (a .out .now)) (t .table-of .ensures) x,
-    )))
+    returns)

@@ -16,7 +16,7 @@ use Rattle.laws.proofs.Cases.{join}
 use Rattle.laws.proofs.Machine.{read1, read2}
 use Rattle.answer.proofs.Orders.{refused, passed}
 use Rattle.leap.specs.declared.Table.{Table}
-use Rattle.leap.specs.Leap.{tabled}
+use Rattle.leap.specs.Leap.{tabled, vouchedTo}
 use Rattle.months.specs.Months.{monthLength}
 use Rattle.labels.specs.declared.Label.{Label}
 use Rattle.labels.specs.declared.Place.{Place}
@@ -25,9 +25,13 @@ use Rattle.labels.specs.Seconds.{microOf, axisAt, firstReading, lastReading}
 use Rattle.labels.specs.Back.{placeAt, labelOf, labelAt, readingAt}
 use Rattle.labels.proofs.Facts.{second-no, second-yes}
 use Rattle.labels.proofs.Uniform.{first-micro, last-micro, reading-month, reading-micro}
+use Rattle.stamp.specs.declared.Scale.{Scale}
+use Rattle.stamp.specs.declared.InstantAnswer.{InstantAnswer}
 use Rattle.stamp.specs.declared.InstantAnswer.the-variants.{At}
+use Rattle.stamp.specs.declared.MarkedInstant.{MarkedInstant}
 use Rattle.stamp.specs.Scales.{offsetsOf, toInstant, instantFor}
 use Rattle.stamp.specs.Back.{instantShowing}
+use Rattle.stamp.specs.Marks.{beyondOn, beyondReading, markedInstant, instantShowingMarked}
 use Rattle.stamp.proofs.instant_showing.Statement.{statement}
 use Rattle.stamp.proofs.instant_showing.Tie as tie
 
@@ -45,7 +49,7 @@ module _ (c : tie.Else2) where
   u = start c .args .micro
 
   abbrev table : Table
-  table = tabled (start c .args .count) (start c .args .months .now) (start c .args .offsets .now)
+  table = vouchedTo (start c .args .vouched) (tabled (start c .args .count) (start c .args .months .now) (start c .args .offsets .now))
 
   abbrev o : Offsets
   o = offsetsOf table (start c .args .scale)
@@ -108,20 +112,59 @@ instant-told c =
     ∙ read1 (λ (z : ℤ). toInstant sc (axisAt (u (e m)) z)) (here-fits (m .before)) (c .instant .ensures)
     ∙ ap₂ (λ (n : ℕ) (z : ℤ). toInstant sc (axisAt n z)) (sym (reading-micro (u (e m)) (low (e m)) (high (e m)))) (m .before .before .before .near .ensures .0 ∙ ap (o (e m)) (month-is m))
 
-pub instant-showing-spec : {M : Type 1} → statement M
+-- an answer's mark is beside it
+marked : (t : Table) (s : Scale) (u : ℕ) {a : InstantAnswer} {m : MarkedInstant} → m ≡ markedInstant a (beyondReading t s (readingAt uniform u)) → a ≡ instantShowing t s u → m ≡ instantShowingMarked t s u
+marked t s u p q = p ∙ ap (λ a. markedInstant a (beyondReading t s (readingAt uniform u))) q
+
+abbrev tableAt : tie.Start → Table
+tableAt c = vouchedTo (c .args .vouched) (tabled (c .args .count) (c .args .months .now) (c .args .offsets .now))
+
+returns : tie.Need-returns
 unfolding instantShowing
+returns c =
+    let a = c .before .before in
+    marked (tableAt a) (a .args .scale) (a .args .micro) (c .refused-instant .ensures) (refused _ _ (early _ (c .before .if1 .taken)))
+
+returns-2 : tie.Need-returns-2
+unfolding instantShowing
+returns-2 c =
+    let a = c .before .before .before in
+    marked (tableAt a) (a .args .scale) (a .args .micro) (c .refused-instant2 .ensures) (refused _ _ (late _ (c .before .if2 .taken)))
+
+returns-3 : tie.Need-returns-3
+unfolding instantShowing
+returns-3 c =
+    let m = c .before .before .before in
+    let a = start (e m) in
+    marked (tableAt a) (a .args .scale) (a .args .micro) (c .refused-instant3 .ensures)
+    (passed _ (in-time (e m)) (refused _ _ (second-no (o (e m)) (labelAt uniform (s m)) (minute-is m) (subst (λ (l : Label). m .minute-length .result ≤ l .second) (label-is m) (c .before .if3 .taken)))))
+
+returns-4 : tie.Need-returns-4
+unfolding instantShowing
+returns-4 c =
+    let i = c .before .before in
+    let x = i .before in
+    let m = x .before .before in
+    let a = start (e m) in
+    marked (tableAt a) (a .args .scale) (a .args .micro)
+    (ap (markedInstant (At _)) (c .beyond-on .ensures ∙ ap (beyondOn (a .args .vouched) (a .args .scale)) (month-is m)))
+    (passed _ (in-time (e m)) (passed _ (second-yes (o (e m)) (labelAt uniform (s m)) (minute-is m) (subst (λ (l : Label). l .second < m .minute-length .result) (label-is m) (x .if3 .left))) (ap At (instant-told i))))
+
+pub instant-showing-spec : {M : Type 1} → statement M
 instant-showing-spec =
     tie.close
     (tie.spec
-    (λ c. refused _ _ (early _ (c .if1 .taken)))
-    (λ c. refused _ _ (late _ (c .if2 .taken)))
+    (λ c κs. search needs)
+    returns
+    (λ c κs. search needs)
+    returns-2
     (λ c κs. search needs)
     (λ c κs. search needs)
     (λ c κs. search needs)
     (λ c κs. search needs)
-    (λ c. let m = c .before .before in
-    passed _ (in-time (e m)) (refused _ _ (second-no (o (e m)) (labelAt uniform (s m)) (minute-is m) (subst (λ (l : Label). m .minute-length .result ≤ l .second) (label-is m) (c .if3 .taken)))))
     (λ c κs. search needs)
-    (λ c. let x = c .before in
-    let m = x .before .before in
-    passed _ (in-time (e m)) (passed _ (second-yes (o (e m)) (labelAt uniform (s m)) (minute-is m) (subst (λ (l : Label). l .second < m .minute-length .result) (label-is m) (x .if3 .left))) (ap At (instant-told c)))))
+    returns-3
+    (λ c κs. search needs)
+    (λ c. search needs)
+    (λ c κs. search needs)
+    returns-4)

@@ -3,7 +3,8 @@ use lib.IntN.{ℤ}
 use borrow.Author.Needs.{needs}
 use Rattle.laws.proofs.Machine.{read1}
 use Rattle.leap.specs.declared.Table.{Table}
-use Rattle.leap.specs.Leap.{tabled}
+use Rattle.leap.specs.Leap.{tabled, vouchedTo}
+use Rattle.leap.proofs.Vouched.{without-month}
 use Rattle.stamp.specs.declared.ScaleAnswer.{ScaleAnswer}
 use Rattle.stamp.specs.declared.MomentAnswer.the-variants.{Refused}
 use Rattle.stamp.specs.Scales.{asked}
@@ -17,7 +18,7 @@ module _ (c : tie.After-asked) where
   s = c .before
 
   abbrev table : Table
-  table = tabled (s .args .count) (s .args .months .now) (s .args .offsets .now)
+  table = vouchedTo (s .args .vouched) (tabled (s .args .count) (s .args .months .now) (s .args .offsets .now))
 
   told : {v : ScaleAnswer} → c .asked .result ≡ v → asked table (s .args .scale) ≡ v
   told e = sym (c .asked .ensures) ∙ e
@@ -32,7 +33,7 @@ moment-of-spec =
     (tie.spec
     (λ c κs. search needs)
     (λ c. search needs)
-    (λ c κs. let a = c .before .before .before in asked-accepted _ _ _ (told a (c .before .s .given .1)))
+    (λ c κs. let a = c .before .before .before in without-month (table a) _ (asked-accepted (table a) _ _ (told a (c .before .s .given .1))))
     (λ c. search needs)
     (λ c. let a = c .before .before .before .before in
     read1 (λ (x : ℤ). momentIn (table a) (c .before .before .s .given .0 .0) x) (a .before .fits .instant) (c .moment-in .ensures) ∙ answered a (c .before .before .s .given .1))

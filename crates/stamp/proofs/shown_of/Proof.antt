@@ -1,15 +1,16 @@
 use mathlib.Core.Path.{_≡_, sym, ap, _∙_}
-use Prim.Native.Nat.{_≤_}
+use Prim.Native.Nat.{_+_, _*_, _≤_}
 use native.Mathlib.Omega.{arith}
 use borrow.Author.Needs.{needs}
 use lib.IntN.{ℤ}
 use Rattle.laws.proofs.Machine.{read1}
 use Rattle.leap.specs.declared.Table.{Table}
-use Rattle.leap.specs.Leap.{tabled}
+use Rattle.leap.specs.Leap.{tabled, vouchedTo}
 use Rattle.stamp.specs.declared.Moment.{Moment}
+use Rattle.stamp.specs.declared.ShownAnswer.the-variants.{Shown}
 use Rattle.stamp.specs.declared.MomentAnswer.{MomentAnswer}
 use Rattle.stamp.specs.declared.MomentAnswer.the-variants.{In}
-use Rattle.stamp.specs.Back.{shownOf}
+use Rattle.stamp.specs.Marks.{markedShown, shownOfMarked}
 use Rattle.stamp.specs.Parts.{momentOf}
 use Rattle.stamp.proofs.Moments.{shown, shown-of-moment, moment-few}
 use Rattle.stamp.proofs.shown_of.Statement.{statement}
@@ -20,13 +21,13 @@ module _ (c : tie.After-moment-of) where
   s = c .before
 
   abbrev table : Table
-  table = tabled (s .args .count) (s .args .months .now) (s .args .offsets .now)
+  table = vouchedTo (s .args .vouched) (tabled (s .args .count) (s .args .months .now) (s .args .offsets .now))
 
   told : {v : MomentAnswer} → c .moment-of .result ≡ v → momentOf table (s .args .instant) (s .args .scale) ≡ v
   told e = sym (read1 (λ (x : ℤ). momentOf table x (s .args .scale)) (s .fits .instant) (c .moment-of .ensures)) ∙ e
 
-  answered : {v : MomentAnswer} → c .moment-of .result ≡ v → shown v ≡ shownOf table (s .args .instant) (s .args .scale)
-  answered e = ap shown (sym (told e)) ∙ shown-of-moment table (s .args .instant) (s .args .scale)
+  answered : {v : MomentAnswer} → c .moment-of .result ≡ v → shown (s .args .vouched) v ≡ shownOfMarked table (s .args .instant) (s .args .scale)
+  answered e = ap (shown (s .args .vouched)) (sym (told e)) ∙ shown-of-moment table (s .args .instant) (s .args .scale)
 
   few : {m : Moment} → c .moment-of .result ≡ In m → (m .place .start ≤ 4000000) × ((m .place .second ≤ 3000000) × (m .micro ≤ 999999))
   few {m} e = moment-few table (s .args .instant) (s .args .scale) m (told e)
@@ -36,8 +37,10 @@ small c = few (c .before .before) (c .m .given .1)
 
 returns : tie.Need-returns
 returns c =
-    let k = c .before .before .before .before .before in
-    answered (k .before .before) (k .m .given .1)
+    let k = c .before .before .before .before .before .before .before in
+    let m = k .m .given .0 .0 in
+    ap (markedShown (Shown (1000000 * (86400 * m .place .start + m .place .second) + m .micro))) (c .beyond-on .ensures)
+    ∙ answered (k .before .before) (k .m .given .1)
 
 pub shown-of-spec : {M : Type 1} → statement M
 shown-of-spec =
@@ -51,6 +54,8 @@ shown-of-spec =
     (λ c. omega (arith, small (c .before .before .before .before)))
     (λ c. search needs)
     (λ c. omega (arith, small (c .before .before .before .before .before)))
+    (λ c. search needs)
+    (λ c κs. search needs)
     (λ c. search needs)
     returns
     (λ c. answered (c .before .before .before) (c .before .why .given .1)))
