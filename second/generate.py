@@ -5,6 +5,12 @@
     generate.py stored         the stored input: the rows of the scope, all of Bulletin C,
                                each kind of edge in turn, then random lines with a fixed seed
 
+And for the other programs, see desk_lines.py and ticks_inputs.py:
+
+    generate.py desk SEED COUNT     COUNT random lines for `desk`
+    generate.py desk-stored         the stored input of `desk`
+    generate.py ticks SEED COUNT    COUNT random inputs for `ticks`, each in hex on a line of its own (- for an empty one)
+
 The protocol has no comments, but a line that is no call answers `?`, so lines
 that begin with `#` serve as headings in the stored input.
 
@@ -1531,13 +1537,31 @@ def is_plain(line):
 
 # ---------------------------------------------------------------------------
 
-def main(words):
+def lines_of_words(words):
+    """The lines that are asked for, or None; the other files are imported here, since they import this one."""
     if words == ['stored']:
-        lines = stored_lines()
-    elif len(words) == 2 and all(word.isdigit() for word in words):
-        lines = random_lines(int(words[0]), int(words[1]))
-    else:
-        print('usage: generate.py SEED COUNT | generate.py stored', file=sys.stderr)
+        return stored_lines()
+    if words == ['desk-stored']:
+        import desk_lines
+        return desk_lines.stored_lines()
+    *program, seed, count = words if len(words) in (2, 3) else ('', '')
+    if not seed.isdigit() or not count.isdigit():
+        return None
+    if program == []:
+        return random_lines(int(seed), int(count))
+    if program == ['desk']:
+        import desk_lines
+        return desk_lines.random_lines(int(seed), int(count))
+    if program == ['ticks']:
+        import ticks_inputs
+        return map(hex_word, ticks_inputs.random_inputs(int(seed), int(count)))
+    return None
+
+
+def main(words):
+    lines = lines_of_words(words)
+    if lines is None:
+        print('usage: generate.py [desk | ticks] SEED COUNT | generate.py stored | generate.py desk-stored', file=sys.stderr)
         return 2
     for line in lines:
         sys.stdout.buffer.write(line.encode('latin-1') + b'\n')

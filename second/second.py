@@ -10,6 +10,8 @@ programs, and the comparison of Bulletin C with the machine's own lists.
     second.py              answers the lines of the program `calls` (stdin to stdout)
     second.py ticks        prints the listing of the program `ticks`
     second.py listings     prints the listings of the program `listings`
+    second.py desk         answers the lines of the program `desk`
+    second.py desk-line WORDS..   answers the one line of these words, as `desk` does
     second.py bulletin     compares Bulletin C's table with the machine's own leap-second list
 
 Here all days are counted from 1972-01-01, which is day 0, and all months from
@@ -1122,12 +1124,22 @@ def main(words):
         program_ticks(sys.stdin.fileno(), sys.stdout.buffer)
     elif words == ['listings']:
         program_listings(sys.stdin.buffer, sys.stdout.buffer)
+    elif words == ['desk']:
+        program_of_desk().program_desk(sys.stdin.buffer, sys.stdout.buffer)
+    elif words[0] == 'desk-line' and len(words) > 1:
+        program_of_desk().program_desk_line(list(map(os.fsencode, words[1:])), sys.stdout.buffer)
     elif words == ['bulletin']:
         return 0 if program_bulletin(sys.stdout) else 1
     else:
-        print('usage: second.py [ticks | listings | bulletin]', file=sys.stderr)
+        print('usage: second.py [ticks | listings | desk | desk-line WORDS.. | bulletin]', file=sys.stderr)
         return 2
     return 0
+
+
+def program_of_desk():
+    """Imported here and not above, since desk.py imports this file."""
+    import desk
+    return desk
 
 
 if __name__ == '__main__':

@@ -8,14 +8,20 @@ its silent places, not taken from the program.
 import datetime
 import io
 import os
+import re
+import shlex
+import shutil
 import struct
 import subprocess
 import sys
 import tempfile
 from fractions import Fraction
 
+import desk
+import desk_lines
 import generate
 import second
+import ticks_inputs
 from second import GPS, TAI, TDT, UTC, Label
 
 HERE = os.path.dirname(os.path.abspath(__file__))
@@ -147,7 +153,7 @@ def test_listing():
 
 def test_ticks_reads_three_lines_only():
     def ticks_then_rest(given):
-        script = f'{sys.executable} {HERE}/second.py ticks; cat'
+        script = shlex.join([sys.executable, '-B', os.path.join(HERE, 'second.py'), 'ticks']) + '; cat'
         return subprocess.run(['sh', '-c', script], input=given, stdout=subprocess.PIPE, check=True).stdout
     assert ticks_then_rest(b'01\n1972-01-01T00:00:00\n1\nrest') == b'UTC TAI\n1972-01-01T00:00:00 -883655990\nrest'
     assert ticks_then_rest(b'') == b'refused 9\n'
@@ -556,6 +562,285 @@ def test_long_lines():
     assert answers('stamp_of ' + '9' * 139_989 + ' 1') == ['?'] and answers('stamp_of -' + '0' * 139_988 + ' 1')[0].startswith('0 1 2000 ')
     assert answers('read_text 0 ' + '3' * 139_988)[0].startswith('2 ')
     assert answers('read_kernel ' + '33' * 69_994) == ['14 65536 0 0']
+
+
+# ---------------------------------------------------------------------------
+# The program `desk`
+
+KERNEL_FILE = os.path.join(HERE, '..', 'examples', 'leapseconds.tls')
+B_BLOCK = 'table block 1c0c0c18181818181818241818303c3018241818242424a80148544824'
+BEYOND = ', beyond the month that the table is vouched for'
+NIGHT = 'UTC 2016-12-31T23:58:30', 'UTC 2017-01-01T00:01:30'
+
+
+def desk_output(given):
+    output = io.BytesIO()
+    desk.program_desk(io.BytesIO(given), output)
+    return output.getvalue()
+
+
+def desk_answers(*lines):
+    """The answers' lines, without the last one of how many were good."""
+    return desk_output('\n'.join((*lines, '')).encode('latin-1')).decode('latin-1').split('\n')[:-2]
+
+
+def expect_desk(line, answer, *before):
+    """The answer to a line behind others, each with one line for an answer."""
+    found = '\n'.join(desk_answers(*before, line)[len(before):])
+    assert found == answer, f'{before} | {line[:100]}: expected {answer}, found {found}'
+
+
+def refused(number, given, sentence=None):
+    name, usual, _ = (word.decode() for word in desk.REFUSALS[number])
+    return f'refused {number} {name}: {sentence or usual} Given: {given}'
+
+
+def expect_desk_refusal(line, number, given, *before, sentence=None):
+    expect_desk(line, refused(number, given, sentence and sentence.decode()), *before)
+
+
+def test_examples_of_the_desk():
+    """From 23:58:30 there are 30 seconds to 23:59:00, 61 to midnight, and 90 to 00:01:30."""
+    expect_desk('between {} and {}'.format(*NIGHT), '181.000000 s')
+    expect_desk('show UTC 2016-12-31T23:59:60 on GPS', 'GPS 2017-01-01T00:00:17.000000')
+    expect_desk('after UTC 2016-12-31T23:59:59', 'UTC 2016-12-31T23:59:60')
+    expect_desk('add 90.5 to UTC 2016-12-31T23:58:30', 'UTC 2016-12-31T23:59:60.500000')
+    expect_desk('pass AURORA-3 from {} to {}'.format(*NIGHT), 'AURORA-3,{},{},181.000000,1 second added'.format(*NIGHT))
+    entries = desk_answers('table')
+    assert entries == [f'{year}-{month:02}-01 {offset} s' for year, month, offset in second.BULLETIN_C] and len(entries) == 28
+    expect_desk('table kernel ' + KERNEL_FILE, '28 entries, the last 2017-01-01 with 37 s, no month vouched for', 'table block 01')
+    expect_desk(B_BLOCK, '28 entries, the last 2017-01-01 with 37 s, no month vouched for', 'vouched 2026-12')
+    expect_desk('vouched 2026-12', '28 entries, the last 2017-01-01 with 37 s, vouched to December 2026')
+    expect_desk('why 6', '6 NOSECOND: UTC has no such second under the table in force. What to do: Check the stamp; if it is right then'
+                         ' load a newer table.')
+
+
+def test_words_of_the_desk_are_those_of_its_page():
+    with open(os.path.join(HERE, '..', 'docs', 'DESK.md'), encoding='utf-8') as file:
+        page = file.read()
+    rows = re.findall(r'^\| (\d+) \| ([A-Z]+) \| (.*?) \| (.*?) \|$', page, re.MULTILINE)
+    refusals, of_their_own = rows[:14], rows[14:]
+    for number, (row, name, sentence, advice) in enumerate(refusals, 1):
+        assert row == str(number)
+        expect_desk(f'why {number}', f'{number} {name}: {sentence} What to do: {advice}')
+    own = (desk.LONG_LINE, desk.NO_SECONDS, desk.NO_NAME, desk.NO_MONTH, desk.NO_REFUSAL, desk.NO_HEX, desk.NO_FILE)
+    assert [row[2] for row in of_their_own] == [sentence.decode() for sentence in own]
+    assert all(',' not in row[2] for row in rows)
+    assert '## Help\n\n```\n' + '\n'.join(desk_answers('help')) + '\n```\n' in page
+
+
+def test_differences_at_the_desk():
+    expect_desk('between {1} and {0}'.format(*NIGHT), '-181.000000 s')
+    expect_desk('between UTC 2016-12-31T23:59:60.5 and UTC 2016-12-31T23:59:60', '-0.500000 s')
+    expect_desk('between TAI 2000-01-01T12:00:00 and TAI 2000-001T12:00:00.0', '0.000000 s')
+    expect_desk('between TAI 2000-01-01T12:00:00.000001 and TAI 2000 JAN 01 12:00:00', '-0.000001 s')
+    expect_desk('between TAI 2017-01-01T00:00:00 and GPS 2017-01-01T00:00:00', '19.000000 s')
+    expect_desk('between TDT 2017-01-01T00:00:00 and TAI 2017-01-01T00:00:00', '32.184000 s')
+    expect_desk('between UTC 2017-01-01T00:00:00 and TAI 2017-01-01T00:00:37', '0.000000 s')
+    expect_desk('between UTC 1972-06-30T23:59:58 and UTC 1972-07-01T00:00:00', '1.000000 s', 'table block 020D')
+    expect_desk('between UTC 1972-01-01T00:00:00 and UTC 9999-12-31T23:59:59.999999', '253339228826.999999 s')
+
+
+def test_stamps_that_the_desk_shows():
+    expect_desk('show TAI 2017-01-01T00:00:36 on UTC', 'UTC 2016-12-31T23:59:60.000000')
+    expect_desk('show TAI 2017-01-01T00:00:35.999999 on UTC', 'UTC 2016-12-31T23:59:59.999999')
+    expect_desk('show UTC 2016 DEC 31 23:59:60.999999 on TDT', 'TDT 2017-01-01T00:01:09.183999')
+    expect_desk('show UTC 9999-12-31T23:59:22.999999 on TAI', 'TAI 9999-12-31T23:59:59.999999')
+    expect_desk('after UTC 2016-12-31T23:59:60.999999', 'UTC 2017-01-01T00:00:00')
+    expect_desk('after UTC 1972-06-30T23:59:58.5', 'UTC 1972-07-01T00:00:00', 'table block 020D')
+    expect_desk('after TAI 2016-12-31T23:59:59', 'TAI 2017-01-01T00:00:00')
+    expect_desk('after GPS 2000-059T23:59:59.9', 'GPS 2000-02-29T00:00:00')
+    for line in ('show UTC 9999-12-31T23:59:23 on TAI', 'show TDT 1972-01-01T00:00:00 on TAI', 'after UTC 9999-12-31T23:59:59',
+                 'after TDT 9999-365T23:59:59.5', 'add 253339228827 to UTC 1972-01-01T00:00:00',
+                 'add -0.000001 to UTC 1972-01-01T00:00:00', 'add 999999999999.999999 to UTC 1972-01-01T00:00:00',
+                 'add -999999999999 to GPS 9999-12-31T23:59:59'):
+        expect_desk_refusal(line, 7, line)
+    for clock in ('', 'gps', 'UT1', 'GPS ', 'GPS on TAI'):
+        line = 'show TDT 1972-01-01T00:00:00 on ' + clock
+        expect_desk_refusal(line, 8, line)
+    expect_desk_refusal('show UTC 2016-12-31T23:59:60', 8, 'show UTC 2016-12-31T23:59:60')
+    expect_desk_refusal('show UTC 2016-12-31T23:59:61 on gps', 5, 'UTC 2016-12-31T23:59:61')
+
+
+def test_sums_of_the_desk():
+    start = 'UTC 2016-12-31T23:59:59'
+    for seconds, answer in (('0', '2016-12-31T23:59:59.000000'), ('1', '2016-12-31T23:59:60.000000'),
+                            ('+2', '2017-01-01T00:00:00.000000'), ('-0.5', '2016-12-31T23:59:58.500000'),
+                            ('1.999999', '2016-12-31T23:59:60.999999'), ('-0', '2016-12-31T23:59:59.000000'),
+                            ('0000000000000001.5', '2016-12-31T23:59:60.500000'),
+                            ('2.', '2017-01-01T00:00:00.000000'), ('86401.0', '2017-01-01T23:59:59.000000')):
+        expect_desk(f'add {seconds} to {start}', 'UTC ' + answer)
+    expect_desk('add 253339228826.999999 to UTC 1972-01-01T00:00:00', 'UTC 9999-12-31T23:59:59.999999')
+    expect_desk('add 0.184 to TDT 2000-01-01T12:00:32', 'TDT 2000-01-01T12:00:32.184000')
+    for seconds in ('', '+', '-', '.', '.5', '1.1234567', '1000000000000', '9' * 400, '1e3', '1,5', ' 1', '1 ', '--1', '0x1', '1\xb2'):
+        expect_desk_refusal(f'add {seconds} to ', 8, seconds.replace('\xb2', '?'), sentence=desk.NO_SECONDS)
+    expect_desk_refusal('add 90 UTC 2016-12-31T23:58:30', 8, '90 UTC 2016-12-31T23:58:30', sentence=desk.NO_SECONDS)
+    expect_desk_refusal('add 90', 8, '')
+    expect_desk_refusal('add 999999999999 to UTC 2016-12-31', 2, 'UTC 2016-12-31')
+
+
+def test_passes_of_the_desk():
+    def expect_steps(first, last, seconds, steps, *before):
+        expect_desk(f'pass X from {first} to {last}', f'X,{first},{last},{seconds},{steps}', *before)
+    expect_steps(*reversed(NIGHT), '-181.000000', '1 second taken out')
+    expect_steps('UTC 2016-12-31T23:59:60', 'UTC 2016-366T23:59:60.5', '0.500000', 'no second added')
+    expect_steps('UTC 2015-06-30T23:59:59', 'UTC 2017 JAN 01 00:00:00', '47520003.000000', '2 seconds added')  # 550 days and 3 s
+    expect_steps('TAI 2016-12-31T23:59:59', 'TAI 2017-01-01T00:00:00', '1.000000', 'no second added')
+    expect_steps('UTC 2017-01-01T00:00:00', 'TAI 2017-01-01T00:00:00', '-37.000000', 'different clocks')
+    expect_steps('TAI 2017-01-01T00:00:00', 'GPS 2017-01-01T00:00:00', '19.000000', 'different clocks')
+    expect_steps('UTC 1972-06-30T23:59:58', 'UTC 1972-07-01T00:00:00', '1.000000', '1 second taken out', 'table block 020D')
+    expect_steps('UTC 1972-06-30T00:00:00', 'UTC 1973-01-01T00:00:00', '15983998.000000', '2 seconds taken out', 'table block 030D0D')
+    expect_steps('UTC 1972-06-30T00:00:00', 'UTC 1973-01-01T00:00:00', '15984000.000000', 'no second added', 'table block 030C0D')
+    for name in (' ', 'a to b', 'to', "it's; 3?", '\x01\x80\xff\r'):
+        expect_desk('pass {} from {} to {}'.format(name, *NIGHT), '{},{},{},181.000000,1 second added'.format(name, *NIGHT))
+    for name in ('', ',', 'a,b', '"', '"\t"'):
+        expect_desk_refusal(f'pass {name} from x to y', 8, name.replace('\t', '?'), sentence=desk.NO_NAME)
+    for rest, given in (('X from UTC 2016-12-31T23:59:59', ''), ('X', ''), ('from {} to {}'.format(*NIGHT), ''),
+                        ('X from Y from Z to A', 'Y from Z'), ('X from {} to Y to {}'.format(*NIGHT), 'Y to ' + NIGHT[1]),
+                        ('X from  to ' + NIGHT[0], '')):
+        expect_desk_refusal('pass ' + rest, 8, given)
+
+
+def test_stamps_that_the_desk_refuses():
+    for stamp, number in (('UTC 2016-12-31 23:59:59', 2), ('UTC 2016-12-31T23:59:59Z', 2), ('UTC 2016-12-31T23:59', 2),
+                          ('UTC', 2), ('UTC ', 2), ('UTC 2016 Dec 31 23:59:59', 2), ('UTC  2016-12-31T23:59:59', 2),
+                          ('UTC 2016-12-31T23:59:59 ', 2), ('UTC 1971-12-31T23:59:59', 3), ('UTC 2017-366T00:00:00', 4),
+                          ('GPS 2016-12-31T23:59:60', 5), ('UTC 2015-12-31T23:59:60', 6), ('2016-12-31T23:59:59', 8),
+                          ('utc 2016-12-31T23:59:59', 8), ('', 8), ('UT1 2016-12-31T23:59:59', 8), ('2016 DEC 31 23:59:59', 8),
+                          (' UTC 2016-12-31T23:59:59', 8)):
+        expect_desk_refusal('after ' + stamp, number, stamp)
+        expect_desk_refusal(f'between {stamp} and x', number, stamp)
+        expect_desk_refusal(f'pass X from {NIGHT[0]} to {stamp}', number, stamp)
+    expect_desk_refusal('after UTC 2016-12-31T23:59:59\r', 2, 'UTC 2016-12-31T23:59:59?')
+    expect_desk_refusal('after UTC\t2016-12-31T23:59:59', 8, 'UTC?2016-12-31T23:59:59')
+    expect_desk_refusal('between ' + NIGHT[0], 8, '')
+
+
+def test_tables_of_the_desk():
+    expect_desk('table block 01', '1 entry, the last 1972-01-01 with 10 s, no month vouched for', 'vouched 2026-12')
+    expect_desk('table block 029Fe10b', '2 entries, the last 9999-12-01 with 9 s, no month vouched for')
+    expect_desk('table', '1972-01-01 10 s\n1972-07-01 9 s', 'table block 020d')
+    assert desk_answers('table block 40' + '03' * 63, 'table')[-1] == '1977-04-01 -53 s'
+    for block, number, place in (('', 9, 0), ('02', 9, 1), ('8100', 10, 0), ('0100', 12, 1), ('0201', 11, 1), ('41', 11, 0),
+                                 ('030C8000', 10, 2)):
+        expect_desk_refusal('table block ' + block, number, f'{block} at byte {place}')
+    for block in ('0', '0g', '03 0C', '01\r', 'zz'):
+        expect_desk_refusal('table block ' + block, 8, block.replace('\r', '?'), sentence=desk.NO_HEX)
+    for line in ('table block', 'table kernel', 'table ', 'table x', 'tables', 'Table'):
+        expect_desk_refusal(line, 8, line)
+    assert desk_answers('table block 020d', 'vouched 1972-07', 'table block 0', 'table kernel .', 'vouched 1972-06',
+                        'after UTC 1972-07-31T23:59:59')[-1] == 'UTC 1972-08-01T00:00:00' + BEYOND
+
+
+def test_files_of_the_desk():
+    with tempfile.TemporaryDirectory() as folder:
+        def path_of(name, file):
+            with open(os.path.join(folder, name), 'wb') as output:
+                output.write(file)
+            return os.path.join(folder, name)
+        path = path_of('a, "b" \x7f', H + G)
+        for good in (path, path_of('full', (H + G).ljust(65_536))):
+            expect_desk('table kernel ' + good, '1 entry, the last 1972-01-01 with 10 s, no month vouched for')
+        for file, number, place in ((b'', 14, 0), (H + G + b'(', 14, 43), (H + G.replace(b'10', b'11'), 11, 0),
+                                    ((H + G).ljust(65_537), 14, 65_536), ((H + G).ljust(70_000), 14, 65_536)):
+            expect_desk_refusal('table kernel ' + path_of('a\tb', file), number, f'{folder}/a?b at byte {place}')
+        for none in (folder, folder + '/none', '', path + '/x', path + ' ', path + '\x00', folder + '/' + 'n' * 300):
+            expect_desk_refusal('table kernel ' + none, 14, none.replace('\x00', '?').replace('\x7f', '?'), sentence=desk.NO_FILE)
+
+
+def test_vouched_months_of_the_desk():
+    def expect_beyond(line, answer):
+        expect_desk(line, answer + BEYOND, 'vouched 2026-12')
+    expect_beyond('after UTC 2026-12-31T23:59:59', 'UTC 2027-01-01T00:00:00')
+    expect_beyond('between TAI 2020-01-01T00:00:00 and UTC 2027-01-01T00:00:00', '220924837.000000 s')
+    expect_beyond('show UTC 2027-01-01T00:00:00 on TAI', 'TAI 2027-01-01T00:00:37.000000')
+    expect_beyond('show TAI 2027-01-01T00:00:37 on UTC', 'UTC 2027-01-01T00:00:00.000000')
+    expect_beyond('add -1 to UTC 2027-01-01T00:00:00', 'UTC 2026-12-31T23:59:59.000000')
+    expect_beyond('add 1 to UTC 2026-12-31T23:59:59', 'UTC 2027-01-01T00:00:00.000000')
+    expect_beyond('pass X from TAI 2027-01-01T00:00:37 to UTC 2027-01-01T00:00:00',
+                  'X,TAI 2027-01-01T00:00:37,UTC 2027-01-01T00:00:00,0.000000,different clocks')
+    for line, answer in (('after UTC 2026-12-31T23:59:58', 'UTC 2026-12-31T23:59:59'),
+                         ('after TAI 2027-01-01T00:00:00', 'TAI 2027-01-01T00:00:01'),
+                         ('show TAI 2027-01-01T00:00:36.999999 on UTC', 'UTC 2026-12-31T23:59:59.999999'),
+                         ('show TAI 2027-01-01T00:00:37 on GPS', 'GPS 2027-01-01T00:00:18.000000')):
+        expect_desk(line, answer, 'vouched 2026-12')
+    expect_desk('after UTC 2027-01-01T00:00:00', 'UTC 2027-01-01T00:00:01', 'vouched 2026-12', B_BLOCK)
+    expect_desk('vouched 2017-01', '28 entries, the last 2017-01-01 with 37 s, vouched to January 2017', 'vouched 9999-12')
+    expect_desk_refusal('vouched 2016-12', 11, '2016-12')
+    for month in ('', '2026', '2026-00', '2026-13', '2026-1', '1971-12', '10000-01', '2026/12', '2026-12 ', '+026-12'):
+        expect_desk_refusal('vouched ' + month, 8, month, sentence=desk.NO_MONTH)
+    expect_desk_refusal('vouched', 8, 'vouched')
+
+
+def test_lines_of_the_desk():
+    for number in ('', '0', '15', '06', '6 ', '-6', 'six', '18446744073709551622'):
+        expect_desk_refusal('why ' + number, 8, number, sentence=desk.NO_REFUSAL)
+    for line in (' ', 'hello, "desk"', 'Help', 'help ', 'why', 'between', 'pass', 'after', 'show\tUTC'):
+        expect_desk_refusal(line, 8, line.replace('\t', '?'))
+    expect_desk_refusal('odd \x00\x1f ~ \x7f\x80\xff\r', 8, 'odd ?? ~ ????')
+    expect_desk_refusal('\x80' * 39 + 'ab' + 'c' * 984, 8, '?' * 39 + 'a', sentence=desk.LONG_LINE)
+    expect_desk_refusal('x' * 1_024, 8, 'x' * 1_024)
+    expect_desk_refusal('x' * 300_000, 8, 'x' * 40, sentence=desk.LONG_LINE)
+    assert desk_answers('x' * 300_000, 'after TAI 2000-01-01T12:00:00')[1] == 'TAI 2000-01-01T12:00:01'
+    assert desk_output(b'') == b'0 of 0 lines good\n'
+    assert desk_output(b'\n') == b'\n1 of 1 lines good\n'
+    assert desk_output(b'\n\nafter UTC 2016-12-31T23:59:59') == b'\n\nUTC 2016-12-31T23:59:60\n3 of 3 lines good\n'
+    assert desk_output(b'x\n\nx').endswith(b'\n1 of 3 lines good - not good: 1 3\n')
+    twenty = b'1 2 3 4 5 6 7 8 9 10 11 12 13 14 15 16 17 18 19 20'
+    assert desk_output(b'x\n' * 20 + b'\n').endswith(b'\n1 of 21 lines good - not good: ' + twenty + b'\n')
+    assert desk_output(b'x\n' * 25).endswith(b'\n0 of 25 lines good - not good: ' + twenty + b' and 5 more\n')
+
+
+def test_words_behind_the_name_are_a_line():
+    def one_line(*words):
+        command = [sys.executable, '-B', os.path.join(HERE, 'second.py'), 'desk-line', *words]
+        return subprocess.run(command, stdout=subprocess.PIPE, check=True).stdout
+    assert one_line('add', '1', 'to', 'UTC 2016-12-31T23:59:59') == b'UTC 2016-12-31T23:59:60.000000\n'
+    assert one_line('table', 'block', '') == refused(9, ' at byte 0').encode() + b'\n'
+    assert one_line('') == b'\n'
+
+
+def test_inputs_of_desk_and_ticks():
+    """Each kind of answer is found; the lines are the same each time."""
+    stored = list(desk_lines.stored_lines())
+    assert len(stored) > 200 and all(map(generate.is_plain, stored)) and 'table kernel leapseconds.tls' in stored
+    for lines in (stored, list(desk_lines.random_lines(1, 6_000))):
+        assert all('\n' not in line for line in lines)
+        found = '\n'.join(desk_answers(*lines))
+        assert set(re.findall('^refused ([0-9]+) ', found, re.MULTILINE)) == set(map(str, (*range(2, 13), 14)))
+        for words in (desk.LONG_LINE, desk.NO_SECONDS, desk.NO_NAME, desk.NO_MONTH, desk.NO_REFUSAL, desk.NO_HEX, desk.NO_FILE):
+            assert words.decode() in found, words
+        for words in ('1 second added', '2 seconds added', '1 second taken out', '2 seconds taken out', 'no second added',
+                      'different clocks', BEYOND):
+            assert words in found, words
+    assert list(desk_lines.random_lines(7, 300)) == list(desk_lines.random_lines(7, 300)) != list(desk_lines.random_lines(8, 300))
+    inputs = list(ticks_inputs.random_inputs(1, 2_000))
+    assert inputs[:300] == list(ticks_inputs.random_inputs(1, 300))
+    listings = [second.listing((given.split(b'\n') + [b''] * 3)[:3]) for given in inputs]
+    first_lines = {listing.split(b'\n')[0] for listing in listings}
+    assert first_lines == {b'UTC TAI', *(b'refused %d' % number for number in (2, 3, 4, 5, 6, 8, 9, 10, 11, 12))}
+    assert max(map(len, listings)) > 100_000 and any(b'9999-12-31T23:59:59' in listing for listing in listings)
+
+
+def test_comparison_in_a_folder_with_blanks():
+    """The second program in each program's place; then what repeats its input, and what does not run."""
+    with tempfile.TemporaryDirectory(prefix='a b ') as top:
+        folder = os.path.join(top, 'second')
+        shutil.copytree(HERE, folder, ignore=shutil.ignore_patterns('__pycache__'))
+        os.mkdir(os.path.join(top, 'examples'))
+        shutil.copy(KERNEL_FILE, os.path.join(top, 'examples'))
+
+        def compare(words, command=''):
+            commands = {'MUNDREFF_' + program: command for program in ('CALLS', 'DESK', 'TICKS')}
+            return subprocess.run([sys.executable, os.path.join(folder, 'compare'), *words.split()], env={**os.environ, **commands},
+                                  stdout=subprocess.DEVNULL, stderr=subprocess.DEVNULL, timeout=100).returncode
+        second_program = [sys.executable, '-B', os.path.join(folder, 'second.py')]
+        for words, more in (('1 50', ()), ('desk 1 50', ('desk',)), ('desk stored', ('desk',)), ('ticks 1 5', ('ticks',))):
+            assert compare(words, shlex.join([*second_program, *more])) == 0, words
+            assert compare(words, 'cat') == 1, words
+        for words in ('1 1000000000', 'desk 1 1000000000', 'ticks 1 1000000000', 'stored'):
+            assert compare(words) == compare(words, '/no/such/program') == compare(words, 'false') == 2, words
+        assert compare('ticks stored', 'cat') == compare('desk', 'cat') == 2
 
 
 # ---------------------------------------------------------------------------
