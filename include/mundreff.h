@@ -6,13 +6,14 @@
    may be shared while nobody writes to it.
 
    Every call returns the number of the refusal, MUNDREFF_OK (0) on success, and writes every output on every call: on a refusal they are
-   all zero (a reader of tables also gives the place). A lent byte buffer is written on success only, and past the reported length never.
+   all zero (a reader of tables also gives the place). A lent byte buffer is written on success only, and past the reported length never, but
+   for the final zero of mundreff_write_string.
    Where several things are wrong, the first in the call's list decides. A dropped number is warned of, see MUNDREFF_CHECKED.
 
-   Pointers. A buffer of no bytes may be NULL (with size or room 0); every other pointer must be valid, and none is tested. An output, marks too, lies apart from the other
-   outputs, from the table and from every input, whole or in part, with one exception: the two labels of mundreff_tick may be one. So a block or
-   a kernel that lies in a mundreff_table is not read into that table, and a table's own bytes are not written over while it is read. Inputs may
-   overlap. What overlaps otherwise is not answered for. */
+   Pointers. A buffer of no bytes may be NULL (with size or room 0); every other pointer must be valid, and none is tested. An output, marks
+   too, lies apart from the other outputs, from the table and from every input, whole or in part, with one exception: the two labels of
+   mundreff_tick may be one. So a block or a kernel that lies in a mundreff_table is not read into that table, and a table's own bytes are not
+   written over while it is read. Inputs may overlap. What overlaps otherwise is not answered for. */
 #ifndef MUNDREFF_H
 #define MUNDREFF_H
 
@@ -20,6 +21,7 @@
 #include <stdint.h>
 #include <string.h>
 
+/* tools/build-shared and tools/install take it from here. */
 #define MUNDREFF_VERSION "0.2"
 
 /* Before each call that can be refused: the compiler warns where its number is not looked at. */
@@ -197,9 +199,10 @@ MUNDREFF_CHECKED static inline uint32_t mundreff_write_string(const mundreff_tab
    Refusals: ASK, TABLE, RANGE. */
 MUNDREFF_CHECKED uint32_t mundreff_write_julian(const mundreff_table *table, int64_t instant, uint32_t scale, double *midnight, double *fraction, uint32_t *marks);
 
-/* The instant of a two-part Julian date. The fraction is first rounded to a microsecond of a day of 86,400 seconds, a tie to the later, and
-   the result is judged after that: a fraction that rounds to a whole day is the next midnight, on UTC even where an added second lies
-   between; one that rounds into a taken-out second is NOSECOND, and past 9999 RANGE.
+/* The instant of a two-part Julian date; on a UTC day with an added or a taken-out second it is not ERFA's, see above. The fraction is first
+   rounded to a microsecond of a day of 86,400 seconds, a tie to the later, and the result is judged after that: a fraction that rounds to a
+   whole day is the next midnight, on UTC even where an added second lies between; one that rounds into a taken-out second is NOSECOND, and
+   past 9999 RANGE.
    Refusals: ASK, TABLE, NUMBER, RANGE, NOSECOND. */
 MUNDREFF_CHECKED uint32_t mundreff_read_julian(const mundreff_table *table, uint32_t scale, double midnight, double fraction, int64_t *instant, uint32_t *marks);
 
