@@ -84,6 +84,15 @@ static void pair_to_instant(void)
     }
 }
 
+/* A day with an added second counts 86,400 seconds in our UTC Julian pairs and 86,401 in ERFA's, so a pair of ours names another instant there:
+   such days are left out. */
+static int wrong_on_other_days(void)
+{
+    int wrong = 0;
+    EACH wrong += !on_leap_day[i] && found[i] != instants[i];
+    return wrong;
+}
+
 int main(void)
 {
     make_inputs();
@@ -96,6 +105,6 @@ int main(void)
     measure("ERFA", "instant to stamp", instant_to_fields);
     measure("ERFA", "instant to Julian pair", instant_to_pair);
     measure("ERFA", "Julian pair to instant", pair_to_instant);
-    differing("ERFA", "Julian pair to instant", wrong_instants());
+    differing("ERFA", "Julian pair to instant", wrong_on_other_days());
     return 0;
 }

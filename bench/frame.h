@@ -22,10 +22,11 @@
 enum { INPUTS = 1024, ROUNDS = 15 };
 #define EACH for (int i = 0; i < INPUTS; i++)
 
-/* UTC stamps of 1972 to 2035 with microseconds, none on a second 60 */
+/* UTC stamps of 1972 to 2035 with microseconds, none on a second 60; every sixteenth on a day with an added second */
 static int fields[INPUTS][7];
+static int on_leap_day[INPUTS];
 static char texts[INPUTS][28];
-/* what they should give: TAI microseconds from 2000-01-01 12:00:00, and the Julian pair */
+/* what they should give: TAI microseconds from 2000-01-01 12:00:00, and the Julian pair, in which every UTC day counts 86,400 seconds */
 static int64_t instants[INPUTS];
 static double midnights[INPUTS], fractions[INPUTS];
 /* what a peer gave */
@@ -36,13 +37,14 @@ static volatile int64_t sink;
 
 /* ---- inputs and expected answers, by arithmetic of its own */
 
-/* the months from which TAI-UTC is one second more, January 1972 being 0, where it is 10 */
-static const int STEPS[] = {6, 12, 24, 36, 48, 60, 72, 84, 96, 114, 126, 138, 162, 192, 216, 228, 246, 258, 270, 288, 306, 324, 408, 444, 486, 522, 540};
+/* the months from which TAI-UTC is one second more, January 1972 being 0, where it is 10; each is a January or a July */
+enum { STEP_COUNT = 27 };
+static const int STEPS[STEP_COUNT] = {6, 12, 24, 36, 48, 60, 72, 84, 96, 114, 126, 138, 162, 192, 216, 228, 246, 258, 270, 288, 306, 324, 408, 444, 486, 522, 540};
 
 static inline int tai_less_utc(int year, int month)
 {
     int offset = 10;
-    for (size_t k = 0; k < sizeof STEPS / sizeof *STEPS; k++)
+    for (int k = 0; k < STEP_COUNT; k++)
         offset += STEPS[k] <= 12 * (year - 1972) + month - 1;
     return offset;
 }
@@ -62,6 +64,14 @@ static inline uint32_t random_below(uint32_t n)
     return (uint32_t)(state >> 11) % n;
 }
 
+/* the day before a step, 30 June or 31 December, which has an added second at its end */
+static inline void set_leap_day(int *f, int step)
+{
+    f[0] = 1972 + (step - 1) / 12;
+    f[1] = 1 + (step - 1) % 12;
+    f[2] = f[1] == 6 ? 30 : 31;
+}
+
 static inline void make_inputs(void)
 {
     static const int highest[7] = {64, 12, 28, 24, 60, 60, 1000000}, lowest[7] = {1972, 1, 1, 0, 0, 0, 0};
@@ -69,6 +79,9 @@ static inline void make_inputs(void)
         int *f = fields[i];
         for (int k = 0; k < 7; k++)
             f[k] = lowest[k] + (int)random_below((uint32_t)highest[k]);
+        on_leap_day[i] = i % 16 == 0;
+        if (on_leap_day[i])
+            set_leap_day(f, STEPS[STEP_COUNT - 1 - i / 16 % STEP_COUNT]);
         snprintf(texts[i], sizeof texts[i], "%04d-%02d-%02dT%02d:%02d:%02d.%06d", f[0], f[1], f[2], f[3], f[4], f[5], f[6]);
         int64_t days = days_from_2000(f[0], f[1], f[2]), micros = (f[3] * 3600LL + f[4] * 60 + f[5]) * 1000000 + f[6];
         instants[i] = days * 86400000000 - 43200000000 + micros + tai_less_utc(f[0], f[1]) * 1000000LL;

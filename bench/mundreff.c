@@ -33,8 +33,12 @@ static int read_right(int i) { return instant_right(i) && stamp_right(i); }
 static int text_right(int i) { return length == 26 && !memcmp(text, texts[i], 26); }
 static int pair_right(int i) { return midnight == midnights[i] && fraction == fractions[i]; }
 static int start_right(int i) { (void)i; return label.year == 1972 && label.month == 1 && label.day == 1 && !(label.hour | label.minute | label.second); }
-/* a second on, but for the last of a minute, which begins another */
-static int next_right(int i) { return labels[i].second < 59 ? next.second == labels[i].second + 1 : next.second == 0; }
+/* a second on; the last of a minute begins another, but for the last of a day with an added second */
+static int next_right(int i)
+{
+    int added = on_leap_day[i] && labels[i].hour == 23 && labels[i].minute == 59;
+    return next.second == (labels[i].second < 59 || added ? labels[i].second + 1 : 0);
+}
 static int table_right(int i) { (void)i; return !memcmp(&read_table, &table, sizeof table); }
 static int block_right(int i) { (void)i; return length == 29 && !memcmp(bytes, block, 29); }
 

@@ -1,6 +1,6 @@
-/* Each call of the header, once with an answer and once refused (mundreff_bulletin_c is never refused); a tick in place, buffers of no bytes,
-   the month that a table is vouched for with the marks of each call, the lengths that are always enough and the names of the refusals. It is C
-   and C++. It says where an answer is another than the header's, and ends with status 1. */
+/* Each call of the header, once with an answer and once refused (mundreff_bulletin_c is never refused); texts with a final zero, a tick in
+   place, buffers of no bytes, the month that a table is vouched for with the marks of each call, the lengths that are always enough and the
+   names of the refusals. It is C and C++. It says where an answer is another than the header's, and ends with status 1. */
 #include <stdio.h>
 #include <string.h>
 #include "mundreff.h"
@@ -147,6 +147,25 @@ static void texts(void)
     USED(before);
     expect("write_text refused", mundreff_write_text(&table, added, MUNDREFF_DAY_OF_YEAR, MUNDREFF_UTC, 0, out, 16, &length, marked()) == MUNDREFF_ROOM && length == 0 && SAME(out, before) && marks == 0);
     expect("write_text", mundreff_write_text(&table, added, MUNDREFF_DAY_OF_YEAR, MUNDREFF_UTC, 0, out, sizeof out, &length, marked()) == MUNDREFF_OK && length == 17 && memcmp(out, text, 17) == 0 && memcmp(out + 17, before, 3) == 0 && marks == 0);
+}
+
+/* a text with its final zero, read and written; without a byte for the zero it is refused, and the buffer keeps its bytes */
+static void strings(void)
+{
+    const char *string = "2016-366T23:59:60";
+    char out[20], before[20];
+    mundreff_stamp stamp;
+    size_t length = 9;
+    int64_t instant = 9;
+    USED(stamp);
+    expect("read_string", mundreff_read_string(&table, MUNDREFF_UTC, string, &instant, &stamp, marked()) == MUNDREFF_OK && instant == added && SAME(stamp, added_stamp) && marks == 0);
+    expect("read_string refused", mundreff_read_string(&table, MUNDREFF_UTC, string + 1, &instant, &stamp, marked()) == MUNDREFF_SHAPE && instant == 0 && SAME(stamp, no_stamp) && marks == 0);
+    expect("read_string of an empty one", mundreff_read_string(&table, MUNDREFF_UTC, "", &instant, &stamp, marked()) == MUNDREFF_SHAPE && instant == 0 && SAME(stamp, no_stamp) && marks == 0);
+    USED(out);
+    USED(before);
+    expect("write_string refused", mundreff_write_string(&table, added, MUNDREFF_DAY_OF_YEAR, MUNDREFF_UTC, 0, out, 17, &length, marked()) == MUNDREFF_ROOM && length == 0 && SAME(out, before) && marks == 0);
+    expect("write_string refused for its scale", mundreff_write_string(&table, added, MUNDREFF_DAY_OF_YEAR, 4, 0, out, sizeof out, &length, marked()) == MUNDREFF_ASK && length == 0 && SAME(out, before) && marks == 0);
+    expect("write_string", mundreff_write_string(&table, added, MUNDREFF_DAY_OF_YEAR, MUNDREFF_UTC, 0, out, 18, &length, marked()) == MUNDREFF_OK && length == 17 && memcmp(out, string, 18) == 0 && memcmp(out + 18, before, 2) == 0 && marks == 0);
 }
 
 static void pairs(void)
@@ -326,6 +345,7 @@ static void no_bytes(void)
     expect("no room for a block", mundreff_write_block(&table, NULL, 0, &length) == MUNDREFF_ROOM && length == 0);
     expect("no text", mundreff_read_text(&table, MUNDREFF_UTC, NULL, 0, &instant, &stamp, marked()) == MUNDREFF_SHAPE && instant == 0 && SAME(stamp, no_stamp) && marks == 0);
     expect("no room for a text", mundreff_write_text(&table, added, MUNDREFF_MONTH_NUMBER, MUNDREFF_UTC, 6, NULL, 0, &length, marked()) == MUNDREFF_ROOM && length == 0 && marks == 0);
+    expect("no room for a string", mundreff_write_string(&table, added, MUNDREFF_MONTH_NUMBER, MUNDREFF_UTC, 6, NULL, 0, &length, marked()) == MUNDREFF_ROOM && length == 0 && marks == 0);
 }
 
 /* 52 gaps of 64 months, whose numbers take two bytes, and 11 of 8,192, whose numbers take three: the longest block there is. Offsets that go
@@ -334,7 +354,7 @@ static void lengths(void)
 {
     mundreff_table longest;
     uint8_t block[MUNDREFF_BLOCK_ROOM], kernel[MUNDREFF_KERNEL_ROOM];
-    char text[MUNDREFF_TEXT_ROOM];
+    char text[MUNDREFF_TEXT_ROOM], string[MUNDREFF_STRING_ROOM];
     size_t length = 9;
     memset(&longest, 0, sizeof longest);
     longest.count = 64;
@@ -350,6 +370,7 @@ static void lengths(void)
     expect("the longest kernel", mundreff_write_kernel(&longest, kernel, sizeof kernel, &length) == MUNDREFF_OK && length == MUNDREFF_KERNEL_ROOM);
     expect("it is no shorter either", mundreff_write_kernel(&longest, kernel, sizeof kernel - 1, &length) == MUNDREFF_ROOM);
     expect("the longest text", mundreff_write_text(&table, added, MUNDREFF_MONTH_NAME, MUNDREFF_UTC, 6, text, sizeof text, &length, marked()) == MUNDREFF_OK && length == MUNDREFF_TEXT_ROOM && memcmp(text, "2016 DEC 31 23:59:60.000000", 27) == 0);
+    expect("the longest string", mundreff_write_string(&table, added, MUNDREFF_MONTH_NAME, MUNDREFF_UTC, 6, string, sizeof string, &length, marked()) == MUNDREFF_OK && length == MUNDREFF_TEXT_ROOM && strcmp(string, "2016 DEC 31 23:59:60.000000") == 0);
 }
 
 static int is_named(uint32_t number, const char *name) { return strcmp(mundreff_refusal_name(number), name) == 0; }
@@ -370,6 +391,7 @@ int main(void)
     below_zero();
     stamps();
     texts();
+    strings();
     pairs();
     ticks();
     months_given();

@@ -3,14 +3,13 @@
 #define _DEFAULT_SOURCE
 #include <inttypes.h>
 #include <stdio.h>
-#include <string.h>
 #include <time.h>
 #include "mundreff.h"
 
 /* the instant of a UTC text in microseconds, the text's stamp and its marks; 0 and a line on standard error where it is refused */
 static int read_utc(const mundreff_table *table, const char *text, int64_t *instant, mundreff_stamp *stamp, uint32_t *marks)
 {
-    uint32_t no = mundreff_read_text(table, MUNDREFF_UTC, text, strlen(text), instant, stamp, marks);
+    uint32_t no = mundreff_read_string(table, MUNDREFF_UTC, text, instant, stamp, marks);
     if (no != MUNDREFF_OK)
         fprintf(stderr, "%s: refused %s%s\n", text, mundreff_refusal_name(no), no == MUNDREFF_NOSECOND ? "; before you call the stamp wrong, look for a newer table" : "");
     return no == MUNDREFF_OK;

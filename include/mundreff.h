@@ -1,19 +1,37 @@
 /* Mundreff: stamps to instants and back, leap tables, Julian dates and the plain clock, for C99 and C++.
-   Link with target/staticlib/libmundreff.a (x86-64 Linux), which tools/build-archive makes. It keeps no state and allocates nothing.
+   Link with target/staticlib/libmundreff.a (x86-64 Linux), which tools/build-archive makes, or, behind `tools/install PREFIX`, with what
+   `pkg-config --cflags --libs mundreff` says; it needs nothing but the C library.
+
+   Threads. The library keeps no state and allocates nothing: any number of threads may call at a time, each with outputs of its own. A table
+   may be shared while nobody writes to it.
 
    Every call returns the number of the refusal, MUNDREFF_OK (0) on success, and writes every output on every call: on a refusal they are
-   all zero (a reader of tables also gives the place). A lent byte buffer is written on success only, and past the reported length never.
-   Where several things are wrong, the first in the call's list decides.
+   all zero (a reader of tables also gives the place). A lent byte buffer is written on success only, and past the reported length never, but
+   for the final zero of mundreff_write_string.
+   Where several things are wrong, the first in the call's list decides. A dropped number is warned of, see MUNDREFF_CHECKED.
 
-   Pointers. A buffer of no bytes may be NULL (with size or room 0); no other pointer may. An output, marks too, lies apart from the other
-   outputs, from the table and from every input, whole or in part, with one exception: the two labels of mundreff_tick may be one. So a block or
-   a kernel that lies in a mundreff_table is not read into that table, and a table's own bytes are not written over while it is read. Inputs may
-   overlap. What overlaps otherwise is not answered for. */
+   Pointers. A buffer of no bytes may be NULL (with size or room 0); every other pointer must be valid, and none is tested. An output, marks
+   too, lies apart from the other outputs, from the table and from every input, whole or in part, with one exception: the two labels of
+   mundreff_tick may be one. So a block or a kernel that lies in a mundreff_table is not read into that table, and a table's own bytes are not
+   written over while it is read. Inputs may overlap. What overlaps otherwise is not answered for. */
 #ifndef MUNDREFF_H
 #define MUNDREFF_H
 
 #include <stddef.h>
 #include <stdint.h>
+#include <string.h>
+
+/* tools/build-shared and tools/install take it from here. */
+#define MUNDREFF_VERSION "0.2"
+
+/* Before each call that can be refused: the compiler warns where its number is not looked at. */
+#if (defined(__cplusplus) && __cplusplus >= 201703L) || (defined(__STDC_VERSION__) && __STDC_VERSION__ >= 202311L)
+#define MUNDREFF_CHECKED [[nodiscard]]
+#elif defined(__GNUC__)
+#define MUNDREFF_CHECKED __attribute__((warn_unused_result))
+#else
+#define MUNDREFF_CHECKED
+#endif
 
 #ifdef __cplusplus
 extern "C" {
@@ -50,9 +68,9 @@ enum {
     MUNDREFF_MONTH_NAME = 2    /* 1986 APR 12 16:31:09 */
 };
 
-/* Bytes that are always enough: the longest text has 27, in picture 2 with six digits, the longest block of a table 138 and the longest kernel
-   2,362. Add one to a text's or a kernel's for a final zero of your own. */
-enum { MUNDREFF_TEXT_ROOM = 27, MUNDREFF_BLOCK_ROOM = 138, MUNDREFF_KERNEL_ROOM = 2362 };
+/* Bytes that are always enough: the longest text has 27, in picture 2 with six digits, and 28 with its final zero as a string, the longest
+   block of a table 138 and the longest kernel 2,362. Add one to a kernel's for a final zero of your own. */
+enum { MUNDREFF_TEXT_ROOM = 27, MUNDREFF_STRING_ROOM = 28, MUNDREFF_BLOCK_ROOM = 138, MUNDREFF_KERNEL_ROOM = 2362 };
 
 /* 1 to 64 entries, each the month (January 1972 is 0) from whose first day TAI-UTC is that offset in seconds. The first is month 0 with 10,
    months rise and end at 96,335 (December 9999) at the latest, offsets go up or down by 1, unused places are zero. Every call checks it.
@@ -117,11 +135,11 @@ uint32_t mundreff_bulletin_c(mundreff_table *table);
    On a refusal `place` is that of the first byte of the number at fault, for TAIL of the first byte too many; where a number is missing
    altogether it is `size`, so do not read block[place] unchecked. On success it is 0.
    Refusals: CUT, GROUPS, TABLE and TAIL, whichever comes first from the left. */
-uint32_t mundreff_read_block(const uint8_t *block, size_t size, size_t *place, mundreff_table *table);
+MUNDREFF_CHECKED uint32_t mundreff_read_block(const uint8_t *block, size_t size, size_t *place, mundreff_table *table);
 
 /* Writes a table as a block, and gives its length. A vouched month is judged and not written: what reads back has none given.
    Refusals: TABLE, ROOM. */
-uint32_t mundreff_write_block(const mundreff_table *table, uint8_t *out, size_t room, size_t *length);
+MUNDREFF_CHECKED uint32_t mundreff_write_block(const mundreff_table *table, uint8_t *out, size_t room, size_t *length);
 
 /* Reads a leap-seconds text kernel into a table. Text, which may be anything, goes up to a line that has only `\begindata`; data follow, up to
    a line that has only `\begintext` or to the end, and so on. Data are assignments, NAME = ITEM or NAME = ( ITEM, ITEM .. ), also with +=; an
@@ -133,52 +151,72 @@ uint32_t mundreff_write_block(const mundreff_table *table, uint8_t *out, size_t 
    a month) that of its @, and of our name's second assignment that of the name; where the file ends too soon it is `size`, so do not read
    file[place] unchecked. With TABLE, also for over 64 pairs, and on success it is 0.
    Refusals: KERNEL, TABLE. */
-uint32_t mundreff_read_kernel(const uint8_t *file, size_t size, uint64_t *place, mundreff_table *table);
+MUNDREFF_CHECKED uint32_t mundreff_read_kernel(const uint8_t *file, size_t size, uint64_t *place, mundreff_table *table);
 
 /* Writes a table as a kernel, from `\begindata` to `\begintext`, a pair to a line, with no final zero, and gives its length. A vouched
    month is judged and not written, as above.
    Refusals: TABLE, ROOM. */
-uint32_t mundreff_write_kernel(const mundreff_table *table, uint8_t *out, size_t room, size_t *length);
+MUNDREFF_CHECKED uint32_t mundreff_write_kernel(const mundreff_table *table, uint8_t *out, size_t room, size_t *length);
 
 /* The instant of a stamp.
    Refusals: ASK, TABLE, YEAR, DATE, CLOCK, NOSECOND. */
-uint32_t mundreff_instant_of(const mundreff_table *table, const mundreff_stamp *stamp, int64_t *instant, uint32_t *marks);
+MUNDREFF_CHECKED uint32_t mundreff_instant_of(const mundreff_table *table, const mundreff_stamp *stamp, int64_t *instant, uint32_t *marks);
 
 /* The stamp of an instant on a scale.
    Refusals: ASK, TABLE, RANGE. */
-uint32_t mundreff_stamp_of(const mundreff_table *table, int64_t instant, uint32_t scale, mundreff_stamp *stamp, uint32_t *marks);
+MUNDREFF_CHECKED uint32_t mundreff_stamp_of(const mundreff_table *table, int64_t instant, uint32_t scale, mundreff_stamp *stamp, uint32_t *marks);
 
 /* Reads a text in any picture, on a scale, as its instant and its stamp. `size` counts no final zero.
    Refusals: ASK, TABLE, SHAPE, YEAR, DATE, CLOCK, NOSECOND. */
-uint32_t mundreff_read_text(const mundreff_table *table, uint32_t scale, const char *text, size_t size, int64_t *instant, mundreff_stamp *stamp, uint32_t *marks);
+MUNDREFF_CHECKED uint32_t mundreff_read_text(const mundreff_table *table, uint32_t scale, const char *text, size_t size, int64_t *instant, mundreff_stamp *stamp, uint32_t *marks);
+
+/* Reads a string, which ends with a zero byte, as the call above reads a text: its size is strlen(text), so it may not be NULL.
+   Refusals: as above. */
+MUNDREFF_CHECKED static inline uint32_t mundreff_read_string(const mundreff_table *table, uint32_t scale, const char *text, int64_t *instant, mundreff_stamp *stamp, uint32_t *marks)
+{
+    return mundreff_read_text(table, scale, text, strlen(text), instant, stamp, marks);
+}
 
 /* Writes an instant in a picture with 0 to 6 digits after the point, cut and never rounded up, with no final zero, and gives the length.
    Note the order, picture and then scale: their numbers overlap, so a swap is not noticed.
    Refusals: ASK, TABLE, RANGE, ROOM. */
-uint32_t mundreff_write_text(const mundreff_table *table, int64_t instant, uint32_t picture, uint32_t scale, uint32_t digits, char *out, size_t room, size_t *length, uint32_t *marks);
+MUNDREFF_CHECKED uint32_t mundreff_write_text(const mundreff_table *table, int64_t instant, uint32_t picture, uint32_t scale, uint32_t digits, char *out, size_t room, size_t *length, uint32_t *marks);
+
+/* Writes as the call above and puts a zero byte behind the text, for which `room` has one byte more; `length` does not count it.
+   Refusals: as above, ROOM also where there is no place for the zero. */
+MUNDREFF_CHECKED static inline uint32_t mundreff_write_string(const mundreff_table *table, int64_t instant, uint32_t picture, uint32_t scale, uint32_t digits, char *out, size_t room, size_t *length, uint32_t *marks)
+{
+    uint32_t no = mundreff_write_text(table, instant, picture, scale, digits, out, room > 0 ? room - 1 : 0, length, marks);
+    if (no == MUNDREFF_OK)
+        out[*length] = '\0';
+    return no;
+}
 
 /* The two-part Julian date of an instant: a midnight that ends in .5, and the fraction of a day of 86,400 seconds. On UTC an added second has
    the pair of the second after it, so reading it back gives an instant one second later; every other instant comes back exactly.
+   On a UTC day with an added or a taken-out second these are not the quasi-Julian dates of ERFA and SOFA: here every UTC day counts 86,400
+   seconds, there it counts its own length. On every other day, and on the uniform scales, the two agree. A coming version changes that.
    Refusals: ASK, TABLE, RANGE. */
-uint32_t mundreff_write_julian(const mundreff_table *table, int64_t instant, uint32_t scale, double *midnight, double *fraction, uint32_t *marks);
+MUNDREFF_CHECKED uint32_t mundreff_write_julian(const mundreff_table *table, int64_t instant, uint32_t scale, double *midnight, double *fraction, uint32_t *marks);
 
-/* The instant of a two-part Julian date. The fraction is first rounded to a microsecond of a day of 86,400 seconds, a tie to the later, and
-   the result is judged after that: a fraction that rounds to a whole day is the next midnight, on UTC even where an added second lies
-   between; one that rounds into a taken-out second is NOSECOND, and past 9999 RANGE.
+/* The instant of a two-part Julian date; on a UTC day with an added or a taken-out second it is not ERFA's, see above. The fraction is first
+   rounded to a microsecond of a day of 86,400 seconds, a tie to the later, and the result is judged after that: a fraction that rounds to a
+   whole day is the next midnight, on UTC even where an added second lies between; one that rounds into a taken-out second is NOSECOND, and
+   past 9999 RANGE.
    Refusals: ASK, TABLE, NUMBER, RANGE, NOSECOND. */
-uint32_t mundreff_read_julian(const mundreff_table *table, uint32_t scale, double midnight, double fraction, int64_t *instant, uint32_t *marks);
+MUNDREFF_CHECKED uint32_t mundreff_read_julian(const mundreff_table *table, uint32_t scale, double midnight, double fraction, int64_t *instant, uint32_t *marks);
 
 /* The label at which the plain clock starts: 1972-01-01 00:00:00. It is never BEYOND: no month that can be given lies before it.
    Refusals: TABLE. */
-uint32_t mundreff_start(const mundreff_table *table, mundreff_label *label, uint32_t *marks);
+MUNDREFF_CHECKED uint32_t mundreff_start(const mundreff_table *table, mundreff_label *label, uint32_t *marks);
 
 /* A label becomes the one a tick after it; on a refusal it becomes all zero, like every output, so keep a copy where you need it.
    Refusals: TABLE, YEAR, DATE, CLOCK, NOSECOND, RANGE. */
-uint32_t mundreff_tick_in_place(const mundreff_table *table, mundreff_label *label, uint32_t *marks);
+MUNDREFF_CHECKED uint32_t mundreff_tick_in_place(const mundreff_table *table, mundreff_label *label, uint32_t *marks);
 
 /* The label one tick after a label; `next` may be `label` itself. It is a copy and the call above.
    Refusals: as above. */
-static inline uint32_t mundreff_tick(const mundreff_table *table, const mundreff_label *label, mundreff_label *next, uint32_t *marks)
+MUNDREFF_CHECKED static inline uint32_t mundreff_tick(const mundreff_table *table, const mundreff_label *label, mundreff_label *next, uint32_t *marks)
 {
     *next = *label;
     return mundreff_tick_in_place(table, next, marks);
