@@ -1,4 +1,4 @@
-// Lines as programs read and write them: up to a byte, the front of a buffer, and bytes as pairs of hex digits.
+// Lines as programs read and write them: up to a byte, the lines of a text, the front of a buffer, and bytes as pairs of hex digits.
 // Every public function is total.
 ghost use mathlib.Core.Path.{_≡_};
 ghost use mathlib.Core.List.{[], _∷_};
@@ -6,7 +6,7 @@ ghost use Prim.Native.Nat.{_+_, _*_, _/_, _≤_, _<_, min};
 ghost use lib.ListN.{length, drop};
 ghost use Rattle.laws.specs.Placed.{place};
 ghost use Rattle.digits.specs.Bytes.{Counts, Appended};
-ghost use Rattle.lines.specs.Words.{before};
+ghost use Rattle.lines.specs.Words.{before, lineOf, lineAfter, lineStart};
 ghost use Rattle.lines.specs.Pairs.{nibble, paired, hexOf, hexInto, glyph as Pairs·glyph, hexText, hexShown};
 use digits::Number;
 
@@ -23,6 +23,31 @@ pub fn until(s: &[u8], from: usize, b: u8) -> usize
         i += 1;
     }
     i
+}
+
+// Where the line after the one at `at` begins.
+fn line_after(s: &[u8], at: usize) -> usize
+    ensures { λ r. ⌜ r ≡ lineAfter (now (s .entry)) at ⌝ }
+{
+    let end = until(s, at, 10);
+    if end < s.len() {
+        return end + 1;
+    }
+    s.len()
+}
+
+// Where line k of a text begins, counted from 0; the end where there are fewer.
+pub fn line_start(s: &[u8], k: usize) -> usize
+    ensures { λ r. ⌜ r ≡ lineStart (now (s .entry)) k ⌝ }
+    ensures { λ r. ⌜ (before 10 (drop r (now (s .entry))) ≡ lineOf (now (s .entry)) k) × (r ≤ length (now (s .entry))) ⌝ }
+{
+    let mut from = 0;
+    let mut done = 0;
+    while done < k {
+        from = line_after(s, from);
+        done += 1;
+    }
+    from
 }
 
 // n, or the length of s where n is more: `&s[..r]` then needs no proof.
