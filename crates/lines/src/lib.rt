@@ -6,7 +6,7 @@ ghost use Prim.Native.Nat.{_+_, _*_, _/_, _≤_, _<_, min};
 ghost use lib.ListN.{length, drop};
 ghost use Rattle.laws.specs.Placed.{place};
 ghost use Rattle.digits.specs.Bytes.{Counts, Appended};
-ghost use Rattle.lines.specs.Words.{before, lineOf, lineAfter, lineStart};
+ghost use Rattle.lines.specs.Words.{before, past as Words·past, lineOf, lineStart};
 ghost use Rattle.lines.specs.Pairs.{nibble, paired, hexOf, hexInto, glyph as Pairs·glyph, hexText, hexShown};
 use digits::Number;
 
@@ -25,11 +25,11 @@ pub fn until(s: &[u8], from: usize, b: u8) -> usize
     i
 }
 
-// Where the line after the one at `at` begins.
-fn line_after(s: &[u8], at: usize) -> usize
-    ensures { λ r. ⌜ r ≡ lineAfter (now (s .entry)) at ⌝ }
+// The index behind the first b from `from` on; the end where there is none.
+pub fn past(s: &[u8], from: usize, b: u8) -> usize
+    ensures { λ r. ⌜ (r ≡ Words·past b (now (s .entry)) from) × (r ≤ length (now (s .entry))) ⌝ }
 {
-    let end = until(s, at, 10);
+    let end = until(s, from, b);
     if end < s.len() {
         return end + 1;
     }
@@ -44,7 +44,7 @@ pub fn line_start(s: &[u8], k: usize) -> usize
     let mut from = 0;
     let mut done = 0;
     while done < k {
-        from = line_after(s, from);
+        from = past(s, from, 10);
         done += 1;
     }
     from

@@ -6,7 +6,7 @@ use native.Mathlib.Omega.{arith}
 use native.Mathlib.Numerals.{add-one}
 use borrow.Author.Needs.{needs}
 use lib.ListN.{length, drop}
-use Rattle.lines.specs.Words.{lineOf, lineAfter, lineStart}
+use Rattle.lines.specs.Words.{past, lineOf, lineStart}
 use Rattle.lines.proofs.Lines.{line-next}
 use Rattle.lines.proofs.line_start.Statement.{statement}
 use Rattle.lines.proofs.line_start.Tie as tie
@@ -32,9 +32,9 @@ loop-again c =
     let s = l .before .before .args .s .now in
     let k = l .before .before .args .k in
     let n : suc (k - (l .loop .done + 1)) ≡ k - l .loop .done = omega arith in
-    let e = c .line-after .ensures in (
+    let e = c .past .ensures .0 in (
       omega arith,
-      rw add-one (e ∙ ap (lineAfter s) (l .loop .inv .1)),
+      rw add-one (e ∙ ap (past 10 s) (l .loop .inv .1)),
       rw e (line-next s (l .loop .from) (k - (l .loop .done + 1)) ∙ ap (lineOf (drop (l .loop .from) s)) n ∙ l .loop .inv .2),
       omega arith,
     )
