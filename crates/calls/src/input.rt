@@ -9,7 +9,7 @@ fn complain(text: &[u8]) {
     io::write_all(STDERR_FILENO, text);
 }
 
-// Writes the answers out. Where that fails there is nothing more to do: nothing is held, and the input is read no further.
+// Writes the answers out. Where that fails there is nothing more to do.
 fn flush(out: &[u8], state: State) -> State {
     let mut s = state;
     let n = lines::front(out, s.used);
@@ -17,7 +17,6 @@ fn flush(out: &[u8], state: State) -> State {
     if !io::write_all(STDOUT_FILENO, &out[..n]) {
         complain(b"calls: the output cannot be written\n");
         s.open = false;
-        s.len = 0;
     }
     s
 }

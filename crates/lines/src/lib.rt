@@ -43,8 +43,8 @@ pub struct Cut {
     pub ended: bool,
 }
 
-// Holds as many bytes of a piece as there is room for, and gives how many are held then.
-fn hold(line: &mut [u8], held: usize, piece: &[u8]) -> usize
+// Holds as many bytes of a piece as there is room for behind those that are held, and gives how many are held then.
+pub fn hold(line: &mut [u8], held: usize, piece: &[u8]) -> usize
     ensures { λ r. ⌜ (r ≡ min (held + length (now (piece .entry))) (length (now (line .entry)))) × (now (line .exit) ≡ heldIn (now (line .entry)) held (now (piece .entry))) ⌝ }
 {
     if line.len() < held {
