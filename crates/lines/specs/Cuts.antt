@@ -6,7 +6,7 @@ use lib.Dec.{ltb}
 use lib.ListN.{length, take, drop}
 use Rattle.laws.specs.Placed.{place}
 use Rattle.lines.specs.declared.Cut.{Cut}
-use Rattle.lines.specs.Words.{before}
+use Rattle.lines.specs.Words.{before, past}
 
 -- the bytes of a chunk from a place on, up to the next line end
 abbrev pub pieceAt : List ℕ → ℕ → List ℕ
@@ -15,7 +15,7 @@ pieceAt chunk from = before 10 (drop from chunk)
 -- past the piece and its line end, or at the end of the chunk; the bytes held, at most as many as the buffer has; whether the line ended
 unfoldable pub cutAt : List ℕ → ℕ → ℕ → ℕ → Cut
 cutAt chunk from size held = record {
-  at = min (from + length (pieceAt chunk from) + 1) (length chunk);
+  at = past 10 chunk from;
   len = min (held + length (pieceAt chunk from)) size;
   ended = ltb (from + length (pieceAt chunk from)) (length chunk);
 }
