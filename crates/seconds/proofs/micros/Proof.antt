@@ -1,98 +1,73 @@
+-- What stands before the point, and what behind it.
+-- Assumes nothing.
+use mathlib.Core.Path.{_≡_, sym, ap, ap₂, _∙_}
+use Prim.Native.Nat.{_+_, _*_, _≤_}
+use native.Mathlib.Omega.{arith}
+use lib.ListN.{length}
+use Rattle.digits.specs.declared.Number.{Number}
+use Rattle.seconds.specs.Seconds.{joined, microsGiven}
+use Rattle.seconds.proofs.Seconds.{front-is, joined-is, small}
 use borrow.Author.Needs.{needs}
 use Rattle.seconds.proofs.micros.Statement.{statement}
 use Rattle.seconds.proofs.micros.Tie as tie
-use Rattle.seconds.proofs.micros.Reads as reads
-use Rattle.seconds.proofs.micros.Lts as lts
-use Rattle.digits.proofs.decimal.Reads as decimal-reads
-use Rattle.lines.proofs.past.Reads as past-reads
-use Rattle.lines.proofs.until.Reads as until-reads
-use Rattle.seconds.proofs.fraction.Reads as fraction-reads
 
--- src/lib.rt:95:9
-until-requires : tie.Need-until-requires
-until-requires c κs = search needs
-
--- src/lib.rt:96:9
-past-requires : tie.Need-past-requires
-past-requires c κs = search needs
-
--- src/lib.rt:97:33
 slice-aggregate-decimal : tie.Need-slice-aggregate-decimal
-slice-aggregate-decimal c = ?
+slice-aggregate-decimal c =
+    let u = c .before .before in
+    let e = u .until .ensures .0 in
+    omega (arith, e, ap length (front-is (u .before .before .args .given .now) e))
 
--- src/lib.rt:97:9
-decimal-requires : tie.Need-decimal-requires
-decimal-requires c κs = search needs
+is : (c : tie.After-fraction) → joined (c .before .before .decimal .result) (c .fraction .result) ≡ microsGiven (c .before .before .before .before .before .before .before .args .given .now)
+is c =
+    let d = c .before .before in
+    let p = d .before .before in
+    joined-is _ (p .before .until .ensures .0) (p .past .ensures .0) (d .decimal .ensures) (c .fraction .ensures)
 
--- src/lib.rt:98:25
-sub-fraction : tie.Need-sub-fraction
-sub-fraction c = search needs
-
--- src/lib.rt:98:25
-part-fraction-start : tie.Need-part-fraction-start
-part-fraction-start c = search needs
-
--- src/lib.rt:98:25
-part-fraction-end : tie.Need-part-fraction-end
-part-fraction-end c = search needs
-
--- src/lib.rt:98:9
-fraction-requires : tie.Need-fraction-requires
-fraction-requires c κs = search needs
-
--- src/lib.rt:99:20
-enum-known-whole : tie.Need-enum-known-whole
-enum-known-whole c = search needs
-
--- src/lib.rt:100:9
-enum-told : tie.Need-enum-told
-enum-told c = search needs
-
--- src/lib.rt:100:9
 returns : tie.Need-returns
-returns c = ?
+returns c =
+    let f = c .before .before in
+    (ap (λ (n : Number). joined n (f .fraction .result)) (sym (c .enum-told .given .1)) ∙ is f, tt)
 
--- src/lib.rt:102:20
-enum-known-part : tie.Need-enum-known-part
-enum-known-part c = search needs
-
--- src/lib.rt:103:9
-enum-told-2 : tie.Need-enum-told-2
-enum-told-2 c = search needs
-
--- src/lib.rt:103:9
 returns-2 : tie.Need-returns-2
-returns-2 c = ?
+returns-2 c =
+    let w = c .before .before .before in
+    (ap₂ joined (sym (w .whole .given .1)) (sym (c .enum-told2 .given .1)) ∙ is (w .before .before), tt)
 
--- src/lib.rt:105:16
+few : (c : tie.After-known-told2) → 1000000 * c .before .before .before .before .whole .given .0 .0 + c .before .part .given .0 .0 ≤ 999999999999999999
+few c =
+    let w = c .before .before .before .before in
+    let f = w .before .before in
+    let h = small _ _ (f .before .before .decimal .ensures) (f .fraction .ensures) (w .whole .given .1) (c .before .part .given .1) in
+    omega arith
+
 mul-t14 : tie.Need-mul-t14
-mul-t14 c = ?
+mul-t14 c = record { fits = omega (arith, few c) }
 
--- src/lib.rt:105:16
 add-t15 : tie.Need-add-t15
-add-t15 c = ?
+add-t15 c = record { fits = omega (arith, few c) }
 
--- src/lib.rt:92:1
 returns-3 : tie.Need-returns-3
-returns-3 c = ?
+returns-3 c =
+    let w = c .before .before .before .before in
+    (ap₂ joined (sym (w .whole .given .1)) (sym (c .before .part .given .1)) ∙ is (w .before .before), few c)
 
 pub micros-spec : {M : Type 1} → statement M
 micros-spec =
     tie.close
     (tie.spec
-    until-requires
-    past-requires
+    (λ c κs. search needs)
+    (λ c κs. search needs)
     slice-aggregate-decimal
-    decimal-requires
-    sub-fraction
-    part-fraction-start
-    part-fraction-end
-    fraction-requires
-    enum-known-whole
-    enum-told
+    (λ c κs. search needs)
+    (λ c. search needs)
+    (λ c. search needs)
+    (λ c. search needs)
+    (λ c κs. search needs)
+    (λ c. search needs)
+    (λ c. search needs)
     returns
-    enum-known-part
-    enum-told-2
+    (λ c. search needs)
+    (λ c. search needs)
     returns-2
     mul-t14
     add-t15

@@ -1,33 +1,24 @@
+-- The sign, and the size behind it.
+-- Assumes nothing.
+use mathlib.Core.Path.{ap, _∙_}
+use lib.IntN.{natAbs}
+use mir.Facts.{toZ-ofZ}
+use Rattle.seconds.specs.Seconds.{signText, microsText, secondsText}
+use Rattle.phrases.proofs.Puts.{puts-as, then}
 use borrow.Author.Needs.{needs}
 use Rattle.seconds.proofs.put_seconds.Statement.{statement}
 use Rattle.seconds.proofs.put_seconds.Tie as tie
-use Rattle.seconds.proofs.put_seconds.Reads as reads
-use Rattle.seconds.proofs.put_seconds.Lts as lts
-use Rattle.digits.proofs.magnitude.Reads as magnitude-reads
-use Rattle.seconds.proofs.put_micros.Reads as put-micros-reads
-use Rattle.seconds.proofs.put_sign.Reads as put-sign-reads
 
--- src/lib.rt:74:9
-magnitude-requires : tie.Need-magnitude-requires
-magnitude-requires c κs = search needs
-
--- src/lib.rt:75:9
-put-sign-requires : tie.Need-put-sign-requires
-put-sign-requires c κs = search needs
-
--- src/lib.rt:76:5
-put-micros-requires : tie.Need-put-micros-requires
-put-micros-requires c κs = search needs
-
--- src/lib.rt:71:1
-same-length : tie.Need-same-length
-same-length c = search needs
-
--- src/lib.rt:71:1
 returns : tie.Need-returns
-returns c = ?
+unfolding secondsText
+returns c =
+    let p = c .before .before in
+    let g = p .before .before .before .before in
+    let m = g .before .before in
+    let z = toZ-ofZ (m .before .before .fits .z) in
+    then (puts-as (ap signText z) (g .put-sign .ensures)) (puts-as (ap microsText (m .magnitude .ensures ∙ ap natAbs z)) (p .put-micros .ensures))
 
 pub put-seconds-spec : {M : Type 1} → statement M
 put-seconds-spec =
     tie.close
-    (tie.spec magnitude-requires put-sign-requires put-micros-requires same-length returns)
+    (tie.spec (λ c κs. search needs) (λ c κs. search needs) (λ c κs. search needs) (λ c. search needs) returns)

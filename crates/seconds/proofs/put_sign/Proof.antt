@@ -1,51 +1,35 @@
+-- A minus for a negative number.
+-- Assumes nothing.
+use Rattle.digits.proofs.Decimals.{sign-is}
+use Rattle.phrases.proofs.Puts.{puts-as}
+use Rattle.seconds.proofs.Seconds.{sign-low, sign-high}
 use borrow.Author.Needs.{needs}
 use Rattle.seconds.proofs.put_sign.Statement.{statement}
 use Rattle.seconds.proofs.put_sign.Tie as tie
-use Rattle.seconds.proofs.put_sign.Reads as reads
-use Rattle.seconds.proofs.put_sign.Lts as lts
-use Rattle.phrases.proofs.put.Reads as put-reads
 
--- src/lib.rt:56:38
-slice-aggregate-put : tie.Need-slice-aggregate-put
-slice-aggregate-put c = search needs
-
--- src/lib.rt:56:9
-put-requires : tie.Need-put-requires
-put-requires c κs = search needs
-
--- src/lib.rt:56:9
-same-length : tie.Need-same-length
-same-length c = search needs
-
--- src/lib.rt:56:9
 returns : tie.Need-returns
-returns c = ?
+returns c =
+    let p = c .before .before in
+    let t = p .before .before .before in
+    let s = t .before .before in
+    puts-as (sign-low (s .args .z) (sign-is (s .fits .z) (t .if1 .taken))) (p .put .ensures)
 
--- src/lib.rt:58:27
-slice-aggregate-put-2 : tie.Need-slice-aggregate-put-2
-slice-aggregate-put-2 c = search needs
-
--- src/lib.rt:58:5
-put-requires-2 : tie.Need-put-requires-2
-put-requires-2 c κs = search needs
-
--- src/lib.rt:52:1
-same-length-2 : tie.Need-same-length-2
-same-length-2 c = search needs
-
--- src/lib.rt:52:1
 returns-2 : tie.Need-returns-2
-returns-2 c = ?
+returns-2 c =
+    let p = c .before .before in
+    let t = p .before .before .before in
+    let s = t .before .before in
+    puts-as (sign-high (s .args .z) (sign-is (s .fits .z) (t .if1 .left))) (p .put2 .ensures)
 
 pub put-sign-spec : {M : Type 1} → statement M
 put-sign-spec =
     tie.close
     (tie.spec
-    slice-aggregate-put
-    put-requires
-    same-length
+    (λ c. search needs)
+    (λ c κs. search needs)
+    (λ c. search needs)
     returns
-    slice-aggregate-put-2
-    put-requires-2
-    same-length-2
+    (λ c. search needs)
+    (λ c κs. search needs)
+    (λ c. search needs)
     returns-2)
