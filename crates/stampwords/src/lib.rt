@@ -127,7 +127,12 @@ fn offset_on(t: Table, z: Stamp) -> i32
 {
     let scale = z.scale;
     match scale {
-        Scale::Utc => leap::offset_at(t.count, &t.months, &t.offsets, labels::month_of(z.reading.label) as u32),
+        Scale::Utc => leap::offset_at(
+            t.count,
+            &t.months,
+            &t.offsets,
+            labels::month_of(z.reading.label) as u32,
+        ),
         Scale::Tai => 0,
         Scale::Tdt => 0,
         Scale::Gps => 0,
@@ -176,12 +181,22 @@ fn span_between(t: Table, a: &[u8], b: &[u8]) -> SpanAnswer
     let end = second.answer;
     match start {
         TextAnswer::Refused(why) => SpanAnswer::First(why),
-        TextAnswer::Read { instant: x, stamp: z } => match end {
+        TextAnswer::Read {
+            instant: x,
+            stamp: z,
+        } => match end {
             TextAnswer::Refused(why) => SpanAnswer::Second(why),
-            TextAnswer::Read { instant: y, stamp: w } => {
+            TextAnswer::Read {
+                instant: y,
+                stamp: w,
+            } => {
                 let micros = elapsed(x, y);
                 let steps = steps_in_order(t, x, z, y, w);
-                let s = Span { micros, steps, beyond };
+                let s = Span {
+                    micros,
+                    steps,
+                    beyond,
+                };
                 SpanAnswer::Lasts(s)
             }
         },
@@ -311,7 +326,16 @@ fn put_shown(text: &[u8], k: u32, beyond: bool, out: &mut [u8], at: usize) -> us
     put_beyond(out, c, beyond)
 }
 
-fn say_shown(t: Table, line: &[u8], x: i64, k: u32, places: u32, mark: bool, out: &mut [u8], at: usize) -> Said
+fn say_shown(
+    t: Table,
+    line: &[u8],
+    x: i64,
+    k: u32,
+    places: u32,
+    mark: bool,
+    out: &mut [u8],
+    at: usize,
+) -> Said
     ensures { λ r. ⌜ Says (now (out .entry)) at (shownReply t (now (line .entry)) x k places mark) r (now (out .exit)) ⌝ }
 {
     let mut text = [0u8; 27];
@@ -330,20 +354,45 @@ fn say_shown(t: Table, line: &[u8], x: i64, k: u32, places: u32, mark: bool, out
     }
 }
 
-fn say_moved(t: Table, line: &[u8], given: &[u8], m: Move, k: u32, places: u32, out: &mut [u8], at: usize) -> Said
+fn say_moved(
+    t: Table,
+    line: &[u8],
+    given: &[u8],
+    m: Move,
+    k: u32,
+    places: u32,
+    out: &mut [u8],
+    at: usize,
+) -> Said
     requires { ⌜ Short m ⌝ }
     ensures { λ r. ⌜ Says (now (out .entry)) at (movedReply t (now (line .entry)) (now (given .entry)) m k places) r (now (out .exit)) ⌝ }
 {
     let read = read_stamp(t, given);
     let answer = read.answer;
     match answer {
-        TextAnswer::Read { instant, stamp: _ } => say_shown(t, line, moved(instant, m), k, places, read.beyond, out, at),
+        TextAnswer::Read { instant, stamp: _ } => say_shown(
+            t,
+            line,
+            moved(instant, m),
+            k,
+            places,
+            read.beyond,
+            out,
+            at,
+        ),
         TextAnswer::Refused(why) => phrases::refuse(out, at, why, given),
     }
 }
 
 // `show A on CLOCK`
-pub fn say_show(t: Table, line: &[u8], given: &[u8], clock: &[u8], out: &mut [u8], at: usize) -> Said
+pub fn say_show(
+    t: Table,
+    line: &[u8],
+    given: &[u8],
+    clock: &[u8],
+    out: &mut [u8],
+    at: usize,
+) -> Said
     ensures { λ r. ⌜ Says (now (out .entry)) at (showReply t (now (line .entry)) (now (given .entry)) (now (clock .entry))) r (now (out .exit)) ⌝ }
 {
     say_moved(t, line, given, Move::On(0), clock_named(clock), 6, out, at)
@@ -353,16 +402,25 @@ pub fn say_show(t: Table, line: &[u8], given: &[u8], clock: &[u8], out: &mut [u8
 pub fn say_after(t: Table, line: &[u8], given: &[u8], out: &mut [u8], at: usize) -> Said
     ensures { λ r. ⌜ Says (now (out .entry)) at (afterReply t (now (line .entry)) (now (given .entry))) r (now (out .exit)) ⌝ }
 {
-    say_moved(t, line, given, Move::On(1000000), clock_of(given), 0, out, at)
+    say_moved(
+        t,
+        line,
+        given,
+        Move::On(1000000),
+        clock_of(given),
+        0,
+        out,
+        at,
+    )
 }
 
 // `add SECONDS to A`
 pub fn say_add(t: Table, line: &[u8], by: &[u8], given: &[u8], out: &mut [u8], at: usize) -> Said
     ensures { λ r. ⌜ Says (now (out .entry)) at (addReply t (now (line .entry)) (now (by .entry)) (now (given .entry))) r (now (out .exit)) ⌝ }
 {
-    let m = seconds::move_given(by);
-    if let Move::NoMove = m {
-        return phrases::refuse_as(out, at, 8, 16, by);
+    match seconds::move_given(by) {
+        Move::On(n) => say_moved(t, line, given, Move::On(n), clock_of(given), 6, out, at),
+        Move::Back(n) => say_moved(t, line, given, Move::Back(n), clock_of(given), 6, out, at),
+        Move::NoMove => phrases::refuse_as(out, at, 8, 16, by),
     }
-    say_moved(t, line, given, m, clock_of(given), 6, out, at)
 }

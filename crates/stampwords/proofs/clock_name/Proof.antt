@@ -1,23 +1,20 @@
+-- By the number.
+-- Assumes nothing.
+use borrow.Author.Tests.{eq-eqb, ne-eqb}
 use Rattle.stampwords.proofs.clock_name.Statement.{statement}
 use Rattle.stampwords.proofs.clock_name.Tie as tie
-use Rattle.stampwords.proofs.clock_name.Reads as reads
-use Rattle.stampwords.proofs.clock_name.Lts as lts
 
--- src/lib.rt:159:9
 returns : tie.Need-returns
-returns c = ?
+returns c = let t = c .before .before in rw (eq-eqb (t .before .args .k) 0 (t .if1 .taken))
 
--- src/lib.rt:162:9
 returns-2 : tie.Need-returns-2
-returns-2 c = ?
+returns-2 c = let t = c .before .before in let k = t .before .before .args .k in rw (ne-eqb k 0 (t .before .if1 .left), eq-eqb k 1 (t .if2 .taken))
 
--- src/lib.rt:165:9
 returns-3 : tie.Need-returns-3
-returns-3 c = ?
+returns-3 c = let t = c .before .before in let k = t .before .before .before .args .k in rw (ne-eqb k 0 (t .before .before .if1 .left), ne-eqb k 1 (t .before .if2 .left), eq-eqb k 2 (t .if3 .taken))
 
--- src/lib.rt:155:1
 returns-4 : tie.Need-returns-4
-returns-4 c = ?
+returns-4 c = let t = c .before .before in let k = t .before .before .before .args .k in rw (ne-eqb k 0 (t .before .before .if1 .left), ne-eqb k 1 (t .before .if2 .left), ne-eqb k 2 (t .if3 .left))
 
 pub clock-name-spec : {M : Type 1} → statement M
 clock-name-spec = tie.close (tie.spec returns returns-2 returns-3 returns-4)

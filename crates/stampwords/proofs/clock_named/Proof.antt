@@ -1,76 +1,56 @@
+-- Name by name.
+-- Assumes nothing.
 use borrow.Author.Needs.{needs}
+use Rattle.digits.specs.Bytes.{ascii}
+use Rattle.stampwords.specs.Stamps.{clockNamed}
+use Rattle.stampwords.proofs.Stamps.{same-told}
 use Rattle.stampwords.proofs.clock_named.Statement.{statement}
 use Rattle.stampwords.proofs.clock_named.Tie as tie
-use Rattle.stampwords.proofs.clock_named.Reads as reads
-use Rattle.stampwords.proofs.clock_named.Lts as lts
-use Rattle.check.proofs.same.Reads as same-reads
 
--- src/lib.rt:173:26
-slice-aggregate-same : tie.Need-slice-aggregate-same
-slice-aggregate-same c = search needs
-
--- src/lib.rt:173:8
-same-requires : tie.Need-same-requires
-same-requires c κs = search needs
-
--- src/lib.rt:174:9
 returns : tie.Need-returns
-returns c = ?
+unfolding clockNamed
+returns c =
+    let s = c .before .before .before .before .args .name .now in
+    rw (same-told s (ascii "UTC") (c .before .same .ensures) (c .if1 .taken))
 
--- src/lib.rt:176:26
-slice-aggregate-same-2 : tie.Need-slice-aggregate-same-2
-slice-aggregate-same-2 c = search needs
-
--- src/lib.rt:176:8
-same-requires-2 : tie.Need-same-requires-2
-same-requires-2 c κs = search needs
-
--- src/lib.rt:177:9
 returns-2 : tie.Need-returns-2
-returns-2 c = ?
+unfolding clockNamed
+returns-2 c =
+    let s = c .before .before .before .before .before .before .before .args .name .now in
+    rw (same-told s (ascii "UTC") (c .before .before .before .before .same .ensures) (c .before .before .before .if1 .left), same-told s (ascii "TAI") (c .before .same2 .ensures) (c .if2 .taken))
 
--- src/lib.rt:179:26
-slice-aggregate-same-3 : tie.Need-slice-aggregate-same-3
-slice-aggregate-same-3 c = search needs
-
--- src/lib.rt:179:8
-same-requires-3 : tie.Need-same-requires-3
-same-requires-3 c κs = search needs
-
--- src/lib.rt:180:9
 returns-3 : tie.Need-returns-3
-returns-3 c = ?
+unfolding clockNamed
+returns-3 c =
+    let s = c .before .before .before .before .before .before .before .before .before .before .args .name .now in
+    rw (same-told s (ascii "UTC") (c .before .before .before .before .before .before .before .same .ensures) (c .before .before .before .before .before .before .if1 .left), same-told s (ascii "TAI") (c .before .before .before .before .same2 .ensures) (c .before .before .before .if2 .left), same-told s (ascii "TDT") (c .before .same3 .ensures) (c .if3 .taken))
 
--- src/lib.rt:182:26
-slice-aggregate-same-4 : tie.Need-slice-aggregate-same-4
-slice-aggregate-same-4 c = search needs
-
--- src/lib.rt:182:8
-same-requires-4 : tie.Need-same-requires-4
-same-requires-4 c κs = search needs
-
--- src/lib.rt:183:9
 returns-4 : tie.Need-returns-4
-returns-4 c = ?
+unfolding clockNamed
+returns-4 c =
+    let s = c .before .before .before .before .before .before .before .before .before .before .before .before .before .args .name .now in
+    rw (same-told s (ascii "UTC") (c .before .before .before .before .before .before .before .before .before .before .same .ensures) (c .before .before .before .before .before .before .before .before .before .if1 .left), same-told s (ascii "TAI") (c .before .before .before .before .before .before .before .same2 .ensures) (c .before .before .before .before .before .before .if2 .left), same-told s (ascii "TDT") (c .before .before .before .before .same3 .ensures) (c .before .before .before .if3 .left), same-told s (ascii "GPS") (c .before .same4 .ensures) (c .if4 .taken))
 
--- src/lib.rt:170:1
 returns-5 : tie.Need-returns-5
-returns-5 c = ?
+unfolding clockNamed
+returns-5 c =
+    let s = c .before .before .before .before .before .before .before .before .before .before .before .before .before .args .name .now in
+    rw (same-told s (ascii "UTC") (c .before .before .before .before .before .before .before .before .before .before .same .ensures) (c .before .before .before .before .before .before .before .before .before .if1 .left), same-told s (ascii "TAI") (c .before .before .before .before .before .before .before .same2 .ensures) (c .before .before .before .before .before .before .if2 .left), same-told s (ascii "TDT") (c .before .before .before .before .same3 .ensures) (c .before .before .before .if3 .left), same-told s (ascii "GPS") (c .before .same4 .ensures) (c .if4 .left))
 
 pub clock-named-spec : {M : Type 1} → statement M
 clock-named-spec =
     tie.close
     (tie.spec
-    slice-aggregate-same
-    same-requires
+    (λ c. search needs)
+    (λ c κs. search needs)
     returns
-    slice-aggregate-same-2
-    same-requires-2
+    (λ c. search needs)
+    (λ c κs. search needs)
     returns-2
-    slice-aggregate-same-3
-    same-requires-3
+    (λ c. search needs)
+    (λ c κs. search needs)
     returns-3
-    slice-aggregate-same-4
-    same-requires-4
+    (λ c. search needs)
+    (λ c κs. search needs)
     returns-4
     returns-5)

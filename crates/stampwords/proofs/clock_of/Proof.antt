@@ -1,27 +1,25 @@
+-- What stands before the blank.
+-- Assumes nothing.
 use borrow.Author.Needs.{needs}
+use mathlib.Core.Path.{sym, ap, _∙_}
+use native.Mathlib.Omega.{arith}
+use borrow.Author.Needs.{needs}
+use lib.Seq.{length-take-le}
+use Rattle.stampwords.specs.Stamps.{clockNamed, clockOf}
+use Rattle.stampwords.proofs.Stamps.{front-is}
 use Rattle.stampwords.proofs.clock_of.Statement.{statement}
 use Rattle.stampwords.proofs.clock_of.Tie as tie
-use Rattle.stampwords.proofs.clock_of.Reads as reads
-use Rattle.stampwords.proofs.clock_of.Lts as lts
-use Rattle.lines.proofs.until.Reads as until-reads
-use Rattle.stampwords.proofs.clock_named.Reads as clock-named-reads
 
--- src/lib.rt:191:9
-until-requires : tie.Need-until-requires
-until-requires c κs = search needs
-
--- src/lib.rt:192:17
 slice-aggregate-clock-named : tie.Need-slice-aggregate-clock-named
-slice-aggregate-clock-named c = ?
+slice-aggregate-clock-named c = let u = c .before .until in sym (length-take-le (u .result) (c .before .before .before .args .given .now) (u .ensures .1 .0 (omega arith)))
 
--- src/lib.rt:192:5
-clock-named-requires : tie.Need-clock-named-requires
-clock-named-requires c κs = search needs
-
--- src/lib.rt:188:1
 returns : tie.Need-returns
-returns c = ?
+unfolding clockOf
+returns c =
+    let u = c .before .before .until in
+    let s = c .before .before .before .before .args .given .now in
+    c .clock-named .ensures ∙ ap clockNamed (front-is 32 s (u .ensures .0))
 
 pub clock-of-spec : {M : Type 1} → statement M
 clock-of-spec =
-    tie.close (tie.spec until-requires slice-aggregate-clock-named clock-named-requires returns)
+    tie.close (tie.spec (λ c κs. search needs) slice-aggregate-clock-named (λ c κs. search needs) returns)

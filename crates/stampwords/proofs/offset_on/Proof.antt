@@ -1,66 +1,40 @@
+-- The table's on UTC, none on a uniform clock.
+-- Assumes nothing.
 use borrow.Author.Needs.{needs}
+use mathlib.Core.Path.{sym, ap, _∙_}
+use mir.Facts.{toZ-ofZ}
+use Rattle.leap.specs.Leap.{offsetAt}
+use Rattle.labels.specs.Labels.{monthOf}
+use Rattle.stamp.specs.declared.Scale.{Scale}
+use Rattle.stamp.specs.Scales.{offsetsOf}
 use Rattle.stampwords.proofs.offset_on.Statement.{statement}
 use Rattle.stampwords.proofs.offset_on.Tie as tie
-use Rattle.stampwords.proofs.offset_on.Reads as reads
-use Rattle.stampwords.proofs.offset_on.Lts as lts
-use Rattle.labels.proofs.month_of.Reads as month-of-reads
-use Rattle.leap.proofs.offset_at.Reads as offset-at-reads
 
--- src/lib.rt:228:39
-enum-told : tie.Need-enum-told
-enum-told c = search needs
-
--- src/lib.rt:228:71
-month-of-requires : tie.Need-month-of-requires
-month-of-requires c κs = search needs
-
--- src/lib.rt:228:71
-cast-offset-at : tie.Need-cast-offset-at
-cast-offset-at c = search needs
-
--- src/lib.rt:228:23
-offset-at-requires : tie.Need-offset-at-requires
-offset-at-requires c κs = search needs
-
--- src/lib.rt:229:23
-enum-told-2 : tie.Need-enum-told-2
-enum-told-2 c = search needs
-
--- src/lib.rt:230:23
-enum-told-3 : tie.Need-enum-told-3
-enum-told-3 c = search needs
-
--- src/lib.rt:231:23
-enum-told-4 : tie.Need-enum-told-4
-enum-told-4 c = search needs
-
--- src/lib.rt:222:1
 returns : tie.Need-returns
-returns c = ?
+returns c =
+    let s = c .before .before .before .before .before .before .before .args in
+    toZ-ofZ (record { sfits = c .offset-at .ok }) ∙ c .offset-at .ensures ∙ ap (offsetAt (s .t1)) (c .before .month-of .ensures) ∙ ap (λ (k : Scale). offsetsOf (s .t1) k (monthOf (s .z .reading .label))) (sym (c .before .before .before .before .before .enum-told .given .1))
 
--- src/lib.rt:222:1
 returns-2 : tie.Need-returns-2
-returns-2 c = ?
+returns-2 c = let s = c .before .before .args in ap (λ (k : Scale). offsetsOf (s .t1) k (monthOf (s .z .reading .label))) (sym (c .enum-told2 .given .1))
 
--- src/lib.rt:222:1
 returns-3 : tie.Need-returns-3
-returns-3 c = ?
+returns-3 c = let s = c .before .before .args in ap (λ (k : Scale). offsetsOf (s .t1) k (monthOf (s .z .reading .label))) (sym (c .enum-told3 .given .1))
 
--- src/lib.rt:222:1
 returns-4 : tie.Need-returns-4
-returns-4 c = ?
+returns-4 c = let s = c .before .before .args in ap (λ (k : Scale). offsetsOf (s .t1) k (monthOf (s .z .reading .label))) (sym (c .enum-told4 .given .1))
 
 pub offset-on-spec : {M : Type 1} → statement M
 offset-on-spec =
     tie.close
     (tie.spec
-    enum-told
-    month-of-requires
-    cast-offset-at
-    offset-at-requires
-    enum-told-2
-    enum-told-3
-    enum-told-4
+    (λ c. search needs)
+    (λ c κs. search needs)
+    (λ c. search needs)
+    (λ c κs. search needs)
+    (λ c. search needs)
+    (λ c. search needs)
+    (λ c. search needs)
     returns
     returns-2
     returns-3

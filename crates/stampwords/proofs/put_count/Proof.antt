@@ -1,65 +1,47 @@
+-- No step, or their number in words.
+-- Assumes nothing.
 use borrow.Author.Needs.{needs}
+use mathlib.Core.Path.{refl, sym, ap, _∙_}
+use borrow.Author.Tests.{eq-eqb, ne-eqb}
+use lib.IntN.{natAbs}
+use mir.Facts.{toZ-ofZ}
+use Rattle.laws.proofs.Branches.{cond-yes, cond-rest}
+use Rattle.digits.specs.Decimals.{decimalText}
+use Rattle.phrases.proofs.Puts.{puts-as, then}
+use Rattle.stampwords.specs.Spans.{stepWord, pluralText, countText}
 use Rattle.stampwords.proofs.put_count.Statement.{statement}
 use Rattle.stampwords.proofs.put_count.Tie as tie
-use Rattle.stampwords.proofs.put_count.Reads as reads
-use Rattle.stampwords.proofs.put_count.Lts as lts
-use Rattle.digits.proofs.magnitude.Reads as magnitude-reads
-use Rattle.phrases.proofs.put.Reads as put-reads
-use Rattle.phrases.proofs.put_unsigned.Reads as put-unsigned-reads
-use Rattle.stampwords.proofs.put_plural.Reads as put-plural-reads
-use Rattle.stampwords.proofs.put_step_word.Reads as put-step-word-reads
 
--- src/lib.rt:332:9
-magnitude-requires : tie.Need-magnitude-requires
-magnitude-requires c κs = search needs
-
--- src/lib.rt:334:38
-slice-aggregate-put : tie.Need-slice-aggregate-put
-slice-aggregate-put c = search needs
-
--- src/lib.rt:334:9
-put-requires : tie.Need-put-requires
-put-requires c κs = search needs
-
--- src/lib.rt:334:9
-same-length : tie.Need-same-length
-same-length c = search needs
-
--- src/lib.rt:334:9
 returns : tie.Need-returns
-returns c = ?
+unfolding countText
+returns c =
+    let i = c .before .before .before .before .before in
+    let m = i .before .magnitude .ensures ∙ ap natAbs (toZ-ofZ (i .before .before .before .fits .z)) in
+    puts-as (cond-yes _ (eq-eqb _ 0 (sym m ∙ i .if1 .taken)) refl) (c .before .before .put .ensures)
 
--- src/lib.rt:336:9
-put-unsigned-requires : tie.Need-put-unsigned-requires
-put-unsigned-requires c κs = search needs
-
--- src/lib.rt:337:9
-put-plural-requires : tie.Need-put-plural-requires
-put-plural-requires c κs = search needs
-
--- src/lib.rt:338:5
-put-step-word-requires : tie.Need-put-step-word-requires
-put-step-word-requires c κs = search needs
-
--- src/lib.rt:329:1
-same-length-2 : tie.Need-same-length-2
-same-length-2 c = search needs
-
--- src/lib.rt:329:1
 returns-2 : tie.Need-returns-2
-returns-2 c = ?
+unfolding countText
+returns-2 c =
+    let w = c .before .before in
+    let p = w .before .before .before .before in
+    let n = p .before .before .before .before in
+    let i = n .before .before in
+    let z = toZ-ofZ (i .before .before .before .fits .z) in
+    let m = i .before .magnitude .ensures ∙ ap natAbs z in
+    puts-as (cond-rest _ (ne-eqb _ 0 (λ e. i .if1 .left (m ∙ e))) refl)
+    (then (puts-as (ap decimalText m) (n .put-unsigned .ensures)) (then (puts-as (ap pluralText m) (p .put-plural .ensures)) (puts-as (ap stepWord z) (w .put-step-word .ensures))))
 
 pub put-count-spec : {M : Type 1} → statement M
 put-count-spec =
     tie.close
     (tie.spec
-    magnitude-requires
-    slice-aggregate-put
-    put-requires
-    same-length
+    (λ c κs. search needs)
+    (λ c. search needs)
+    (λ c κs. search needs)
+    (λ c. search needs)
     returns
-    put-unsigned-requires
-    put-plural-requires
-    put-step-word-requires
-    same-length-2
+    (λ c κs. search needs)
+    (λ c κs. search needs)
+    (λ c κs. search needs)
+    (λ c. search needs)
     returns-2)

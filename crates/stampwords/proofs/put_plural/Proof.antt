@@ -1,51 +1,26 @@
+-- One second, or several.
+-- Assumes nothing.
 use borrow.Author.Needs.{needs}
+use borrow.Author.Tests.{eq-eqb, ne-eqb}
+use Rattle.phrases.proofs.Puts.{puts-as}
 use Rattle.stampwords.proofs.put_plural.Statement.{statement}
 use Rattle.stampwords.proofs.put_plural.Tie as tie
-use Rattle.stampwords.proofs.put_plural.Reads as reads
-use Rattle.stampwords.proofs.put_plural.Lts as lts
-use Rattle.phrases.proofs.put.Reads as put-reads
 
--- src/lib.rt:324:38
-slice-aggregate-put : tie.Need-slice-aggregate-put
-slice-aggregate-put c = search needs
-
--- src/lib.rt:324:9
-put-requires : tie.Need-put-requires
-put-requires c κs = search needs
-
--- src/lib.rt:324:9
-same-length : tie.Need-same-length
-same-length c = search needs
-
--- src/lib.rt:324:9
 returns : tie.Need-returns
-returns c = ?
+returns c = let t = c .before .before .before .before .before in puts-as (rw (eq-eqb (t .before .before .args .n) 1 (t .if1 .taken))) (c .before .before .put .ensures)
 
--- src/lib.rt:326:27
-slice-aggregate-put-2 : tie.Need-slice-aggregate-put-2
-slice-aggregate-put-2 c = search needs
-
--- src/lib.rt:326:5
-put-requires-2 : tie.Need-put-requires-2
-put-requires-2 c κs = search needs
-
--- src/lib.rt:320:1
-same-length-2 : tie.Need-same-length-2
-same-length-2 c = search needs
-
--- src/lib.rt:320:1
 returns-2 : tie.Need-returns-2
-returns-2 c = ?
+returns-2 c = let t = c .before .before .before .before .before in puts-as (rw (ne-eqb (t .before .before .args .n) 1 (t .if1 .left))) (c .before .before .put2 .ensures)
 
 pub put-plural-spec : {M : Type 1} → statement M
 put-plural-spec =
     tie.close
     (tie.spec
-    slice-aggregate-put
-    put-requires
-    same-length
+    (λ c. search needs)
+    (λ c κs. search needs)
+    (λ c. search needs)
     returns
-    slice-aggregate-put-2
-    put-requires-2
-    same-length-2
+    (λ c. search needs)
+    (λ c κs. search needs)
+    (λ c. search needs)
     returns-2)

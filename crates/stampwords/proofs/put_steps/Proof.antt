@@ -1,57 +1,31 @@
+-- Their number, or that the clocks differ.
+-- Assumes nothing.
 use borrow.Author.Needs.{needs}
+use mathlib.Core.Path.{sym, ap, _∙_}
+use mir.Facts.{toZ-ofZ}
+use Rattle.phrases.proofs.Puts.{puts-as}
+use Rattle.stampwords.specs.Spans.{countText, stepsText}
 use Rattle.stampwords.proofs.put_steps.Statement.{statement}
 use Rattle.stampwords.proofs.put_steps.Tie as tie
-use Rattle.stampwords.proofs.put_steps.Reads as reads
-use Rattle.stampwords.proofs.put_steps.Lts as lts
-use Rattle.phrases.proofs.put.Reads as put-reads
-use Rattle.stampwords.proofs.put_count.Reads as put-count-reads
 
--- src/lib.rt:345:22
-enum-known-steps : tie.Need-enum-known-steps
-enum-known-steps c = search needs
-
--- src/lib.rt:345:28
-put-count-requires : tie.Need-put-count-requires
-put-count-requires c κs = search needs
-
--- src/lib.rt:346:43
-enum-told : tie.Need-enum-told
-enum-told c = search needs
-
--- src/lib.rt:346:52
-slice-aggregate-put : tie.Need-slice-aggregate-put
-slice-aggregate-put c = search needs
-
--- src/lib.rt:346:30
-put-requires : tie.Need-put-requires
-put-requires c κs = search needs
-
--- src/lib.rt:341:1
-same-length : tie.Need-same-length
-same-length c = search needs
-
--- src/lib.rt:341:1
 returns : tie.Need-returns
-returns c = ?
+returns c =
+    let k = c .before .before .before .before in
+    puts-as (ap countText (toZ-ofZ (record { sfits = k .known-told .given .0 .1 })) ∙ ap stepsText (sym (k .before .steps .given .1))) (c .before .before .put-count .ensures)
 
--- src/lib.rt:341:1
-same-length-2 : tie.Need-same-length-2
-same-length-2 c = search needs
-
--- src/lib.rt:341:1
 returns-2 : tie.Need-returns-2
-returns-2 c = ?
+returns-2 c = puts-as (ap stepsText (sym (c .before .before .before .before .before .enum-told .given .1))) (c .before .before .put .ensures)
 
 pub put-steps-spec : {M : Type 1} → statement M
 put-steps-spec =
     tie.close
     (tie.spec
-    enum-known-steps
-    put-count-requires
-    enum-told
-    slice-aggregate-put
-    put-requires
-    same-length
+    (λ c. search needs)
+    (λ c κs. search needs)
+    (λ c. search needs)
+    (λ c. search needs)
+    (λ c κs. search needs)
+    (λ c. search needs)
     returns
-    same-length-2
+    (λ c. search needs)
     returns-2)

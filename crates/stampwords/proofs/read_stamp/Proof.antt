@@ -1,48 +1,34 @@
+-- The clock is asked by its name, and the text is what stands behind it.
+-- Assumes nothing.
 use borrow.Author.Needs.{needs}
+use mathlib.Core.Path.{ap, ap₂, _∙_}
+use Prim.Native.Nat.{ℕ}
+use lib.ListN.{drop}
+use Rattle.text.specs.Marks.{readTextMarked}
+use Rattle.lines.proofs.Lines.{past-drops}
+use Rattle.phrases.proofs.Parts.{rest-is}
+use Rattle.stampwords.specs.Stamps.{stampRead}
 use Rattle.stampwords.proofs.read_stamp.Statement.{statement}
 use Rattle.stampwords.proofs.read_stamp.Tie as tie
-use Rattle.stampwords.proofs.read_stamp.Reads as reads
-use Rattle.stampwords.proofs.read_stamp.Lts as lts
-use Rattle.lines.proofs.past.Reads as past-reads
-use Rattle.stampwords.proofs.clock_of.Reads as clock-of-reads
-use Rattle.text.proofs.read_text.Reads as read-text-reads
 
--- src/lib.rt:198:9
-past-requires : tie.Need-past-requires
-past-requires c κs = search needs
-
--- src/lib.rt:199:24
-clock-of-requires : tie.Need-clock-of-requires
-clock-of-requires c κs = search needs
-
--- src/lib.rt:199:41
-sub-read-text : tie.Need-sub-read-text
-sub-read-text c = search needs
-
--- src/lib.rt:199:41
-part-read-text-start : tie.Need-part-read-text-start
-part-read-text-start c = search needs
-
--- src/lib.rt:199:41
-part-read-text-end : tie.Need-part-read-text-end
-part-read-text-end c = search needs
-
--- src/lib.rt:199:5
-read-text-requires : tie.Need-read-text-requires
-read-text-requires c κs = search needs
-
--- src/lib.rt:195:1
 returns : tie.Need-returns
-returns c = ?
+unfolding stampRead
+returns c =
+    let k = c .before .before in
+    let f = k .before in
+    let a = f .before .before .args in
+    let s = a .given .now in
+    let text = rest-is s (f .past .result) ∙ ap (λ (n : ℕ). drop n s) (f .past .ensures .0) ∙ past-drops 32 s 0 in
+    c .read-text .ensures ∙ ap₂ (readTextMarked (a .t)) (k .clock-of .ensures) text
 
 pub read-stamp-spec : {M : Type 1} → statement M
 read-stamp-spec =
     tie.close
     (tie.spec
-    past-requires
-    clock-of-requires
-    sub-read-text
-    part-read-text-start
-    part-read-text-end
-    read-text-requires
+    (λ c κs. search needs)
+    (λ c κs. search needs)
+    (λ c. search needs)
+    (λ c. search needs)
+    (λ c. search needs)
+    (λ c κs. search needs)
     returns)

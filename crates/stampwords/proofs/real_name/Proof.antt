@@ -1,29 +1,33 @@
+-- Each byte is looked for up to the end.
+-- Assumes nothing.
 use borrow.Author.Needs.{needs}
+use mathlib.Core.Path.{sym, _∙_}
+use native.Mathlib.Nat.{zero-add}
+use native.Mathlib.Omega.{arith}
+use borrow.Author.Tests.{le-leb, lt-leb, eq-eqb, ne-eqb}
+use lib.ListN.{length}
+use Rattle.lines.specs.Words.{before}
+use Rattle.stampwords.specs.Spans.{realName}
 use Rattle.stampwords.proofs.real_name.Statement.{statement}
 use Rattle.stampwords.proofs.real_name.Tie as tie
-use Rattle.stampwords.proofs.real_name.Reads as reads
-use Rattle.stampwords.proofs.real_name.Lts as lts
-use Rattle.lines.proofs.until.Reads as until-reads
 
--- src/lib.rt:375:9
 returns : tie.Need-returns
-returns c = ?
+unfolding realName
+returns c = rw (lt-leb 1 (length (c .before .before .args .name .now)) (c .if1 .taken))
 
--- src/lib.rt:377:8
-until-requires : tie.Need-until-requires
-until-requires c κs = search needs
-
--- src/lib.rt:378:9
 returns-2 : tie.Need-returns-2
-returns-2 c = ?
+unfolding realName
+returns-2 c =
+    let s = c .before .before .before .before .args .name .now in
+    let u = c .before .until .ensures .0 in
+    rw (le-leb 1 (length s) (omega arith), ne-eqb (length (before 44 s)) (length s) (λ e. c .if2 .taken (u ∙ zero-add _ ∙ e)))
 
--- src/lib.rt:380:5
-until-requires-2 : tie.Need-until-requires-2
-until-requires-2 c κs = search needs
-
--- src/lib.rt:371:1
 returns-3 : tie.Need-returns-3
-returns-3 c = ?
+unfolding realName
+returns-3 c =
+    let s = c .before .before .before .before .before .args .name .now in
+    let u = c .before .before .until .ensures .0 in
+    rw (le-leb 1 (length s) (omega arith), eq-eqb (length (before 44 s)) (length s) (sym (zero-add _) ∙ sym u ∙ c .before .if2 .left), c .until2 .ensures .0, zero-add)
 
 pub real-name-spec : {M : Type 1} → statement M
-real-name-spec = tie.close (tie.spec returns until-requires returns-2 until-requires-2 returns-3)
+real-name-spec = tie.close (tie.spec returns (λ c κs. search needs) returns-2 (λ c κs. search needs) returns-3)

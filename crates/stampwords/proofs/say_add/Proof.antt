@@ -1,59 +1,69 @@
+-- On, back, or no number of seconds.
+-- Assumes nothing.
 use borrow.Author.Needs.{needs}
+use mathlib.Core.Path.{sym, ap, subst, _∙_}
+use Prim.Native.Nat.{ℕ}
+use Rattle.seconds.specs.declared.Move.the-variants.{On, Back}
+use Rattle.seconds.specs.Seconds.{Short}
+use Rattle.phrases.proofs.Replies.{says-as}
+use Rattle.stampwords.specs.Moves.{movedReply, addAnswer, addReply}
 use Rattle.stampwords.proofs.say_add.Statement.{statement}
 use Rattle.stampwords.proofs.say_add.Tie as tie
-use Rattle.stampwords.proofs.say_add.Reads as reads
-use Rattle.stampwords.proofs.say_add.Lts as lts
-use Rattle.phrases.proofs.refuse_as.Reads as refuse-as-reads
-use Rattle.stampwords.proofs.clock_of.Reads as clock-of-reads
-use Rattle.stampwords.proofs.move_given.Reads as move-given-reads
-use Rattle.stampwords.proofs.say_moved.Reads as say-moved-reads
 
--- src/lib.rt:461:9
-move-given-requires : tie.Need-move-given-requires
-move-given-requires c κs = search needs
-
--- src/lib.rt:463:35
-enum-told : tie.Need-enum-told
-enum-told c = search needs
-
--- src/lib.rt:463:9
-refuse-as-requires : tie.Need-refuse-as-requires
-refuse-as-requires c κs = search needs
-
--- src/lib.rt:463:9
-same-length : tie.Need-same-length
-same-length c = search needs
-
--- src/lib.rt:463:9
-returns : tie.Need-returns
-returns c = ?
-
--- src/lib.rt:465:34
-clock-of-requires : tie.Need-clock-of-requires
-clock-of-requires c κs = search needs
-
--- src/lib.rt:465:5
 say-moved-requires : tie.Need-say-moved-requires
-say-moved-requires c κs = search needs
+say-moved-requires c κs = subst Short (c .before .before .before .n .given .1) (c .before .before .before .before .before .move-given .ensures .1)
 
--- src/lib.rt:458:1
-same-length-2 : tie.Need-same-length-2
-same-length-2 c = search needs
+say-moved-requires-2 : tie.Need-say-moved-requires-2
+say-moved-requires-2 c κs = subst Short (c .before .before .before .n2 .given .1) (c .before .before .before .before .before .move-given .ensures .1)
 
--- src/lib.rt:458:1
+returns : tie.Need-returns
+unfolding addReply
+returns c =
+    let k = c .before .before .before .before in
+    let n = k .before .before in
+    let g = n .before .before in
+    let a = g .before .before .before .before .before .args in
+    says-as
+    (ap (λ (j : ℕ). movedReply (a .t) (a .line .now) (a .given .now) (On (n .n .given .0 .0)) j 6) (k .clock-of .ensures)
+    ∙ ap (addAnswer (a .t) (a .line .now) (a .by .now) (a .given .now)) (sym (n .n .given .1) ∙ g .move-given .ensures .0))
+    (c .before .before .say-moved .ensures)
+
 returns-2 : tie.Need-returns-2
-returns-2 c = ?
+unfolding addReply
+returns-2 c =
+    let k = c .before .before .before .before in
+    let n = k .before .before in
+    let g = n .before .before in
+    let a = g .before .before .before .before .before .args in
+    says-as
+    (ap (λ (j : ℕ). movedReply (a .t) (a .line .now) (a .given .now) (Back (n .n2 .given .0 .0)) j 6) (k .clock-of2 .ensures)
+    ∙ ap (addAnswer (a .t) (a .line .now) (a .by .now) (a .given .now)) (sym (n .n2 .given .1) ∙ g .move-given .ensures .0))
+    (c .before .before .say-moved2 .ensures)
+
+returns-3 : tie.Need-returns-3
+unfolding addReply
+returns-3 c =
+    let e = c .before .before .before .before in
+    let g = e .before .before in
+    let a = g .before .before .before .before .before .args in
+    says-as (ap (addAnswer (a .t) (a .line .now) (a .by .now) (a .given .now)) (sym (e .enum-told .given .1) ∙ g .move-given .ensures .0)) (c .before .before .refuse-as .ensures)
 
 pub say-add-spec : {M : Type 1} → statement M
 say-add-spec =
     tie.close
     (tie.spec
-    move-given-requires
-    enum-told
-    refuse-as-requires
-    same-length
-    returns
-    clock-of-requires
+    (λ c κs. search needs)
+    (λ c. search needs)
+    (λ c κs. search needs)
     say-moved-requires
-    same-length-2
-    returns-2)
+    (λ c. search needs)
+    (λ c κs. search needs)
+    say-moved-requires-2
+    (λ c. search needs)
+    (λ c κs. search needs)
+    (λ c. search needs)
+    returns
+    (λ c. search needs)
+    returns-2
+    (λ c. search needs)
+    returns-3)

@@ -1,64 +1,56 @@
+-- The stamp is read, and its instant moved.
+-- Assumes nothing.
 use borrow.Author.Needs.{needs}
+use mathlib.Core.Path.{_≡_, sym, ap, _∙_}
+use mir.Facts.{toZ-ofZ}
+use Rattle.text.specs.declared.TextAnswer.the-variants.{Read}
+use Rattle.seconds.specs.Seconds.{movedBy}
+use Rattle.phrases.proofs.Replies.{says-as}
+use Rattle.stampwords.specs.Stamps.{stampRead}
+use Rattle.stampwords.specs.Moves.{movedAnswer, movedReply}
+use Rattle.stampwords.proofs.Stamps.{stamp-near}
+use Rattle.stampwords.proofs.Moves.{moved-is}
 use Rattle.stampwords.proofs.say_moved.Statement.{statement}
 use Rattle.stampwords.proofs.say_moved.Tie as tie
-use Rattle.stampwords.proofs.say_moved.Reads as reads
-use Rattle.stampwords.proofs.say_moved.Lts as lts
-use Rattle.phrases.proofs.refuse.Reads as refuse-reads
-use Rattle.stampwords.proofs.moved.Reads as moved-reads
-use Rattle.stampwords.proofs.read_stamp.Reads as read-stamp-reads
-use Rattle.stampwords.proofs.say_shown.Reads as say-shown-reads
 
--- src/lib.rt:435:9
-read-stamp-requires : tie.Need-read-stamp-requires
-read-stamp-requires c κs = search needs
+read : (c : tie.After-answer) → let a = c .before .before .before .before .before .before .args in stampRead (a .t) (a .given .now) .answer ≡ Read (c .answer .given .0 .0) (c .answer .given .0 .1 .0)
+read c = sym (ap (λ v. v .answer) (c .before .before .read-stamp .ensures)) ∙ c .answer .given .1
 
--- src/lib.rt:438:28
-enum-known-answer : tie.Need-enum-known-answer
-enum-known-answer c = search needs
-
--- src/lib.rt:438:70
 moved-requires : tie.Need-moved-requires
-moved-requires c κs = ?
+moved-requires c κs =
+    let s = c .before .before .before .before .before .before .before in
+    rw (toZ-ofZ (record { sfits = c .known-told .given .0 .1 })) (stamp-near (s .args .t) (s .args .given .now) (read (c .before)), s .pre)
 
--- src/lib.rt:438:51
-say-shown-requires : tie.Need-say-shown-requires
-say-shown-requires c κs = search needs
-
--- src/lib.rt:439:29
-enum-known-answer-2 : tie.Need-enum-known-answer-2
-enum-known-answer-2 c = search needs
-
--- src/lib.rt:439:37
-refuse-requires : tie.Need-refuse-requires
-refuse-requires c κs = search needs
-
--- src/lib.rt:431:1
-same-length : tie.Need-same-length
-same-length c = search needs
-
--- src/lib.rt:431:1
 returns : tie.Need-returns
-returns c = ?
+returns c =
+    let p = c .before .before in
+    let m = p .before .before in
+    let k = m .before in
+    let r = k .before .before .before in
+    let a = r .before .before .before .before .args in
+    let x = toZ-ofZ (record { sfits = k .known-told .given .0 .1 }) in
+    let y = toZ-ofZ (record { sfits = m .moved .ok }) ∙ m .moved .ensures ∙ ap (movedBy (a .m)) x in
+    says-as (moved-is (a .t) (a .line .now) (a .given .now) (a .m) (a .k) (a .places) (read (k .before)) (ap (λ v. v .beyond) (r .read-stamp .ensures)) y) (p .say-shown .ensures)
 
--- src/lib.rt:431:1
-same-length-2 : tie.Need-same-length-2
-same-length-2 c = search needs
-
--- src/lib.rt:431:1
 returns-2 : tie.Need-returns-2
-returns-2 c = ?
+unfolding movedReply
+returns-2 c =
+    let k = c .before .before .before .before .before in
+    let r = k .before .before in
+    let a = r .before .before .before .before .args in
+    says-as (ap (λ v. movedAnswer (a .t) (a .line .now) (a .given .now) (a .m) (a .k) (a .places) v (stampRead (a .t) (a .given .now) .beyond)) (sym (k .answer2 .given .1) ∙ ap (λ v. v .answer) (r .read-stamp .ensures))) (c .before .before .refuse .ensures)
 
 pub say-moved-spec : {M : Type 1} → statement M
 say-moved-spec =
     tie.close
     (tie.spec
-    read-stamp-requires
-    enum-known-answer
+    (λ c κs. search needs)
+    (λ c. search needs)
     moved-requires
-    say-shown-requires
-    enum-known-answer-2
-    refuse-requires
-    same-length
+    (λ c κs. search needs)
+    (λ c. search needs)
+    (λ c κs. search needs)
+    (λ c. search needs)
     returns
-    same-length-2
+    (λ c. search needs)
     returns-2)

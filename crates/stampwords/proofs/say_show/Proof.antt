@@ -1,26 +1,19 @@
+-- Not moved, on the clock that is named.
+-- Assumes nothing.
 use borrow.Author.Needs.{needs}
+use mathlib.Core.Path.{ap}
+use Prim.Native.Nat.{ℕ}
+use Rattle.seconds.specs.declared.Move.the-variants.{On}
+use Rattle.phrases.proofs.Replies.{says-as}
+use Rattle.stampwords.specs.Moves.{movedReply}
 use Rattle.stampwords.proofs.say_show.Statement.{statement}
 use Rattle.stampwords.proofs.say_show.Tie as tie
-use Rattle.stampwords.proofs.say_show.Reads as reads
-use Rattle.stampwords.proofs.say_show.Lts as lts
-use Rattle.stampwords.proofs.clock_named.Reads as clock-named-reads
-use Rattle.stampwords.proofs.say_moved.Reads as say-moved-reads
 
--- src/lib.rt:447:44
-clock-named-requires : tie.Need-clock-named-requires
-clock-named-requires c κs = search needs
-
--- src/lib.rt:447:5
-say-moved-requires : tie.Need-say-moved-requires
-say-moved-requires c κs = search needs
-
--- src/lib.rt:444:1
-same-length : tie.Need-same-length
-same-length c = search needs
-
--- src/lib.rt:444:1
 returns : tie.Need-returns
-returns c = ?
+returns c =
+    let k = c .before .before .before .before in
+    let a = k .before .before .before .before .before .args in
+    says-as (ap (λ (n : ℕ). movedReply (a .t) (a .line .now) (a .given .now) (On 0) n 6) (k .clock-named .ensures)) (c .before .before .say-moved .ensures)
 
 pub say-show-spec : {M : Type 1} → statement M
-say-show-spec = tie.close (tie.spec clock-named-requires say-moved-requires same-length returns)
+say-show-spec = tie.close (tie.spec (λ c κs. search needs) (λ c κs. search needs) (λ c. search needs) returns)

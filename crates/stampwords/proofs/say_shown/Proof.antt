@@ -1,90 +1,65 @@
+-- What was written in front of the buffer, or why it was not.
+-- Assumes nothing.
 use borrow.Author.Needs.{needs}
+use mathlib.Core.Path.{refl, sym, ap, ap₂, _∙_}
+use mathlib.Core.Bool.{_||_}
+use mir.Syntax.{w64}
+use mir.Val.{toZ, ofZ}
+use mir.Facts.{toZ-ofZ}
+use Rattle.stamp.specs.Scales.{scaleOf}
+use Rattle.stamp.specs.Marks.{beyondAt}
+use Rattle.text.specs.Marks.{markedWritten}
+use Rattle.phrases.proofs.Puts.{puts-as}
+use Rattle.phrases.proofs.Replies.{says-as}
+use Rattle.stampwords.specs.Moves.{clockText, shownReply}
+use Rattle.stampwords.proofs.Moves.{inWords, shown-is, text-is}
 use Rattle.stampwords.proofs.say_shown.Statement.{statement}
 use Rattle.stampwords.proofs.say_shown.Tie as tie
-use Rattle.stampwords.proofs.say_shown.Reads as reads
-use Rattle.stampwords.proofs.say_shown.Lts as lts
-use Rattle.lines.proofs.front.Reads as front-reads
-use Rattle.phrases.proofs.refuse.Reads as refuse-reads
-use Rattle.stampwords.proofs.either.Reads as either-reads
-use Rattle.stampwords.proofs.put_shown.Reads as put-shown-reads
-use Rattle.text.proofs.write_text.Reads as write-text-reads
 
--- src/lib.rt:416:50
-slice-aggregate-write-text : tie.Need-slice-aggregate-write-text
-slice-aggregate-write-text c = search needs
-
--- src/lib.rt:416:9
-write-text-requires : tie.Need-write-text-requires
-write-text-requires c κs = search needs
-
--- src/lib.rt:418:9
-either-requires : tie.Need-either-requires
-either-requires c κs = search needs
-
--- src/lib.rt:420:24
-enum-known-written : tie.Need-enum-known-written
-enum-known-written c = search needs
-
--- src/lib.rt:421:34
-slice-aggregate-front : tie.Need-slice-aggregate-front
-slice-aggregate-front c = search needs
-
--- src/lib.rt:421:17
-front-requires : tie.Need-front-requires
-front-requires c κs = search needs
-
--- src/lib.rt:423:31
-array-share-prefix-text : tie.Need-array-share-prefix-text
-array-share-prefix-text c = search needs
-
--- src/lib.rt:423:31
-slice-aggregate-put-shown : tie.Need-slice-aggregate-put-shown
-slice-aggregate-put-shown c = search needs
-
--- src/lib.rt:423:21
-put-shown-requires : tie.Need-put-shown-requires
-put-shown-requires c κs = search needs
-
--- src/lib.rt:427:26
-enum-known-written-2 : tie.Need-enum-known-written-2
-enum-known-written-2 c = search needs
-
--- src/lib.rt:427:34
-refuse-requires : tie.Need-refuse-requires
-refuse-requires c κs = search needs
-
--- src/lib.rt:412:1
-same-length : tie.Need-same-length
-same-length c = search needs
-
--- src/lib.rt:412:1
 returns : tie.Need-returns
-returns c = ?
+returns c =
+    let p = c .before .before in
+    let f = p .before .before .before in
+    let o = f .before .before .before in
+    let e = o .before .before in
+    let w = e .before .before in
+    let s = w .before .before .before .before in
+    let a = s .args in
+    let x = toZ w64 (ofZ w64 (a .x)) in
+    let wrote = sym (ap (λ r. r .answer) (w .write-text .ensures .0)) ∙ o .written .given .1 in
+    let text = text-is (a .t) x (a .k) (a .places) (o .written .given .0 .0) wrote (w .write-text .ensures .1) (f .front .ensures .1) in
+    let beyond = beyondAt (a .t) (scaleOf (a .k)) x in
+    let mark = e .either .ensures ∙ ap (λ m. a .mark || m) (ap (λ r. r .beyond) (w .write-text .ensures .0) ∙ ap (λ v. markedWritten v beyond .beyond) wrote) in
+    says-as (sym (ap (inWords (a .t) (a .line .now) x (a .k) (a .places) (a .mark)) wrote) ∙ shown-is (a .t) x (a .k) (a .places) (a .line .now) (a .mark) ∙ ap (λ y. shownReply (a .t) (a .line .now) y (a .k) (a .places) (a .mark)) (toZ-ofZ (s .fits .x)))
+    (record { puts = puts-as (ap₂ (clockText (a .k)) text mark) (p .put-shown .ensures); good = refl })
 
--- src/lib.rt:412:1
-same-length-2 : tie.Need-same-length-2
-same-length-2 c = search needs
-
--- src/lib.rt:412:1
 returns-2 : tie.Need-returns-2
-returns-2 c = ?
+returns-2 c =
+    let o = c .before .before .before .before .before in
+    let w = o .before .before .before .before in
+    let s = w .before .before .before .before in
+    let a = s .args in
+    let x = toZ w64 (ofZ w64 (a .x)) in
+    let not-written = sym (ap (λ r. r .answer) (w .write-text .ensures .0)) ∙ o .written2 .given .1 in
+    says-as (sym (ap (inWords (a .t) (a .line .now) x (a .k) (a .places) (a .mark)) not-written) ∙ shown-is (a .t) x (a .k) (a .places) (a .line .now) (a .mark) ∙ ap (λ y. shownReply (a .t) (a .line .now) y (a .k) (a .places) (a .mark)) (toZ-ofZ (s .fits .x)))
+    (c .before .before .refuse .ensures)
 
 pub say-shown-spec : {M : Type 1} → statement M
 say-shown-spec =
     tie.close
     (tie.spec
-    slice-aggregate-write-text
-    write-text-requires
-    either-requires
-    enum-known-written
-    slice-aggregate-front
-    front-requires
-    array-share-prefix-text
-    slice-aggregate-put-shown
-    put-shown-requires
-    enum-known-written-2
-    refuse-requires
-    same-length
+    (λ c. search needs)
+    (λ c κs. search needs)
+    (λ c κs. search needs)
+    (λ c. search needs)
+    (λ c. search needs)
+    (λ c κs. search needs)
+    (λ c. search needs)
+    (λ c. search needs)
+    (λ c κs. search needs)
+    (λ c. search needs)
+    (λ c κs. search needs)
+    (λ c. search needs)
     returns
-    same-length-2
+    (λ c. search needs)
     returns-2)

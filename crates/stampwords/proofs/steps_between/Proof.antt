@@ -1,57 +1,53 @@
+-- The two offsets on one clock, as wide numbers.
+-- Assumes nothing.
 use borrow.Author.Needs.{needs}
+use mathlib.Core.Path.{ap₂}
+use borrow.Author.Tests.{eq-eqb, ne-eqb}
+use lib.IntN.{_-ℤ_}
+use mir.Syntax.{w32, w64}
+use mir.Val.{SFits}
+use mir.Facts.{toZ-ofZ, sfits-widen}
+use Rattle.laws.proofs.Machine.{widened}
+use Rattle.stampwords.specs.declared.Steps.the-variants.{Count}
+use Rattle.stampwords.proofs.Stamps.{apart-fits}
 use Rattle.stampwords.proofs.steps_between.Statement.{statement}
 use Rattle.stampwords.proofs.steps_between.Tie as tie
-use Rattle.stampwords.proofs.steps_between.Reads as reads
-use Rattle.stampwords.proofs.steps_between.Lts as lts
-use Rattle.stamp.proofs.Scale.number.Reads as number-reads
-use Rattle.stampwords.proofs.offset_on.Reads as offset-on-reads
 
--- src/lib.rt:241:8
-number-requires : tie.Need-number-requires
-number-requires c κs = search needs
-
--- src/lib.rt:241:26
-number-requires-2 : tie.Need-number-requires-2
-number-requires-2 c κs = search needs
-
--- src/lib.rt:242:9
 returns : tie.Need-returns
-returns c = ?
+returns c = let n = c .before in rw (← n .number2 .ensures, ← n .before .number .ensures, ne-eqb _ _ (c .if1 .taken))
 
--- src/lib.rt:244:18
-offset-on-requires : tie.Need-offset-on-requires
-offset-on-requires c κs = search needs
+first : (c : tie.After-offset-on) → SFits w32 (c .offset-on .result)
+first c = record { sfits = c .offset-on .ok }
 
--- src/lib.rt:244:18
+second : (c : tie.After-offset-on2) → SFits w32 (c .offset-on2 .result)
+second c = record { sfits = c .offset-on2 .ok }
+
 cast-before : tie.Need-cast-before
-cast-before c = ?
+cast-before c = rw (toZ-ofZ (first c)) (sfits-widen tt (first c))
 
--- src/lib.rt:245:17
-offset-on-requires-2 : tie.Need-offset-on-requires-2
-offset-on-requires-2 c κs = search needs
-
--- src/lib.rt:245:17
 cast-after : tie.Need-cast-after
-cast-after c = ?
+cast-after c = rw (toZ-ofZ (second c)) (sfits-widen tt (second c))
 
--- src/lib.rt:246:18
 sub-t12 : tie.Need-sub-t12
-sub-t12 c = ?
+sub-t12 c = rw (widened w64 tt (second c), widened w64 tt (first (c .before))) (apart-fits (first (c .before)) (second c))
 
--- src/lib.rt:235:1
 returns-2 : tie.Need-returns-2
-returns-2 c = ?
+returns-2 c =
+    let e = c .before .before in
+    let n = e .before in
+    rw (widened w64 tt (second c), widened w64 tt (first (c .before)), toZ-ofZ (apart-fits (first (c .before)) (second c)), ← n .number2 .ensures, ← n .before .number .ensures, eq-eqb _ _ (e .if1 .left))
+    (ap₂ (λ x y. Count (y -ℤ x)) (c .before .offset-on .ensures) (c .offset-on2 .ensures))
 
 pub steps-between-spec : {M : Type 1} → statement M
 steps-between-spec =
     tie.close
     (tie.spec
-    number-requires
-    number-requires-2
+    (λ c κs. search needs)
+    (λ c κs. search needs)
     returns
-    offset-on-requires
+    (λ c κs. search needs)
     cast-before
-    offset-on-requires-2
+    (λ c κs. search needs)
     cast-after
     sub-t12
     returns-2)
