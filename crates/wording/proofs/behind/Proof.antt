@@ -1,0 +1,12 @@
+use borrow.Author.Needs.{needs}
+use Rattle.wording.proofs.behind.Statement.{statement}
+use Rattle.wording.proofs.behind.Tie as tie
+
+returns : tie.Need-returns
+returns c = ?
+
+returns-2 : tie.Need-returns-2
+returns-2 c = ?
+
+pub behind-spec : {M : Type 1} → statement M
+behind-spec = tie.close (tie.spec (λ c κs. search needs) (λ c. search needs) returns (λ c. search needs) returns-2)
