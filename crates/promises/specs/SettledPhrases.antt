@@ -1,7 +1,6 @@
 -- Texts put one behind another, the parts of a line, and the refusals in words: each function settled by its own contract.
 -- `putEnd` is where the next text goes, and `putInto` the buffer afterwards, as much of the text in it as it holds.
 -- Assumes nothing.
-use mathlib.Core.Bool.{Bool, false}
 use mathlib.Core.List.{List}
 use Prim.Native.Nat.{ℕ}
 use lib.IntN.{ℤ}
