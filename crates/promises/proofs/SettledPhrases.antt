@@ -1,6 +1,6 @@
 -- Two equations are in every contract, of the end and of the bytes; that the end stands within them follows.
 -- Assumes nothing.
-use mathlib.Core.Path.{refl, sym, ap, ap₂, subst}
+use mathlib.Core.Path.{refl, sym, ap₂, subst}
 use mathlib.Core.Bool.{Bool, true, false, cond}
 use mathlib.Core.List.{List, [], _∷_}
 use Prim.Native.Nat.{ℕ, _≤_}
@@ -31,9 +31,11 @@ said-alone : {l : List ℕ} {i : ℕ} {reply : Reply} → Settles Unit (λ (a : 
 said-alone {l} {i} {reply} =
     record {
       asks-nothing = tt;
-      allows-it-alone = λ a.
-          (λ p. ap₂ (λ x y. (x, y)) (ap₂ said (p .puts .end) (p .good)) (p .puts .bytes), λ p.
-          subst (λ (b : Said × List ℕ). Says l i reply (b .0) (b .1)) (sym p) (record { puts = puts l i (reply .text) refl refl; good = refl }));
+      allows-it-alone = λ a. (
+        λ p. ap₂ (λ x y. (x, y)) (ap₂ said (p .puts .end) (p .good)) (p .puts .bytes),
+        λ p.
+            subst (λ (b : Said × List ℕ). Says l i reply (b .0) (b .1)) (sym p) (record { puts = puts l i (reply .text) refl refl; good = refl }),
+      );
     }
 
 -- the bytes before a word are no more than all

@@ -14,4 +14,5 @@ pub mod Vouched
 pub mod Clock
 pub mod Julian
 pub mod Listing
+pub mod Desk
 pub mod Worked
