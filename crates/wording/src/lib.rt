@@ -208,7 +208,14 @@ fn judged(line: &[u8], t: Table, readable: bool, file: &[u8], out: &mut [u8], at
 }
 
 // Says the answer to a line, with its line feed, and gives the table afterwards. `file` is what the file that `file_of` names holds.
-pub fn answer(line: &[u8], t: Table, readable: bool, file: &[u8], out: &mut [u8], at: usize) -> Loaded
+pub fn answer(
+    line: &[u8],
+    t: Table,
+    readable: bool,
+    file: &[u8],
+    out: &mut [u8],
+    at: usize,
+) -> Loaded
     ensures { λ r. ⌜ Loads (now (out .entry)) at (answered t readable (now (file .entry)) (now (line .entry))) r (now (out .exit)) ⌝ }
 {
     let a = judged(line, t, readable, file, out, at);
