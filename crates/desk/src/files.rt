@@ -2,7 +2,7 @@
 ghost use Prim.Native.Nat.{_≤_};
 ghost use lib.ListN.{length};
 use leap::Table;
-use wording::Answered;
+use tablewords::Loaded;
 
 // How many bytes were read, and whether they could be.
 pub struct Got {
@@ -56,14 +56,14 @@ fn read_file(path: &[u8], buf: &mut [u8]) -> Got {
 }
 
 // One byte more is read than a kernel may have, so that a longer one is seen.
-fn answer_file(path: &[u8], line: &[u8], t: Table, out: &mut [u8], at: usize) -> Answered {
+fn answer_file(path: &[u8], line: &[u8], t: Table, out: &mut [u8], at: usize) -> Loaded {
     let mut file = [0u8; 65537];
     let g = read_file(path, &mut file);
     let n = lines::front(&file, g.size);
     wording::answer(line, t, g.fine, &file[..n], out, at)
 }
 
-pub(crate) fn answer(line: &[u8], t: Table, out: &mut [u8], at: usize) -> Answered {
+pub(crate) fn answer(line: &[u8], t: Table, out: &mut [u8], at: usize) -> Loaded {
     let p = wording::file_of(line);
     let from = p.from;
     let end = p.end;

@@ -41,12 +41,13 @@ fn answer_line(line: &[u8], state: State, out: &mut [u8]) -> State {
         return s;
     }
     let a = answer(&line[..n], s.table, out, s.used);
-    let tally = counted(s.tally, a.good);
+    let said = a.said;
+    let tally = counted(s.tally, said.good);
     let table = a.table;
     State {
         open: true,
         len: 0,
-        used: a.at,
+        used: said.at,
         tally,
         table,
     }

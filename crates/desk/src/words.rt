@@ -43,5 +43,6 @@ pub(crate) fn answer_words(count: usize) {
     let held = join(&mut line, count);
     let n = lines::front(&line, held);
     let a = answer(&line[..n], leap::bulletin_c(), &mut out, 0);
-    put(&out, a.at);
+    let said = a.said;
+    put(&out, said.at);
 }
