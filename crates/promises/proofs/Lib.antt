@@ -2,7 +2,7 @@ pub mod Answers
 pub mod Settled
 pub mod SettledInC
 pub mod SettledParts
-pub mod SettledPhrases
+pub mod SettledDesk
 pub mod Orders
 pub mod Constants
 pub mod Writers
