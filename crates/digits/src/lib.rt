@@ -177,7 +177,7 @@ fn unsigned_text(n: u64) -> Text
 }
 
 // The size of a number without its sign.
-fn magnitude(z: i64) -> u64
+pub fn magnitude(z: i64) -> u64
     ensures { λ r. ⌜ r ≡ natAbs z ⌝ }
 {
     if z < 0 {

@@ -1,2 +1,4 @@
 pub mod Words
+pub mod Lines
+pub mod Cuts
 pub mod Pairs

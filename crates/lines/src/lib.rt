@@ -1,4 +1,4 @@
-// Lines as programs read and write them: up to a byte, the front of a buffer, and bytes as pairs of hex digits.
+// Lines as programs read and write them: up to a byte, the lines of a text, the front of a buffer, lines out of chunks, and bytes as pairs of hex digits.
 // Every public function is total.
 ghost use mathlib.Core.Path.{_≡_};
 ghost use mathlib.Core.List.{[], _∷_};
@@ -6,7 +6,8 @@ ghost use Prim.Native.Nat.{_+_, _*_, _/_, _≤_, _<_, min};
 ghost use lib.ListN.{length, drop};
 ghost use Rattle.laws.specs.Placed.{place};
 ghost use Rattle.digits.specs.Bytes.{Counts, Appended};
-ghost use Rattle.lines.specs.Words.{before};
+ghost use Rattle.lines.specs.Words.{before, past as Words·past, lineOf, lineStart};
+ghost use Rattle.lines.specs.Cuts.{pieceAt, cutAt, heldIn};
 ghost use Rattle.lines.specs.Pairs.{nibble, paired, hexOf, hexInto, glyph as Pairs·glyph, hexText, hexShown};
 use digits::Number;
 
@@ -25,12 +26,80 @@ pub fn until(s: &[u8], from: usize, b: u8) -> usize
     i
 }
 
+// The index behind the first b from `from` on; the end where there is none.
+pub fn past(s: &[u8], from: usize, b: u8) -> usize
+    ensures { λ r. ⌜ (r ≡ Words·past b (now (s .entry)) from) × (r ≤ length (now (s .entry))) ⌝ }
+{
+    let end = until(s, from, b);
+    if end < s.len() {
+        return end + 1;
+    }
+    s.len()
+}
+
+// Where line k of a text begins, counted from 0; the end where there are fewer.
+pub fn line_start(s: &[u8], k: usize) -> usize
+    ensures { λ r. ⌜ r ≡ lineStart (now (s .entry)) k ⌝ }
+    ensures { λ r. ⌜ (before 10 (drop r (now (s .entry))) ≡ lineOf (now (s .entry)) k) × (r ≤ length (now (s .entry))) ⌝ }
+{
+    let mut from = 0;
+    let mut done = 0;
+    while done < k {
+        from = past(s, from, 10);
+        done += 1;
+    }
+    from
+}
+
 // n, or the length of s where n is more: `&s[..r]` then needs no proof.
 pub fn front(s: &[u8], n: usize) -> usize
     ensures { λ r. ⌜ Counts r (now (s .entry)) ⌝ }
     ensures { λ r. ⌜ r ≡ min n (length (now (s .entry))) ⌝ }
 {
     if n < s.len() { n } else { s.len() }
+}
+
+// ---- lines out of chunks
+
+// Where the chunk goes on, how many bytes of the line are held, and whether its end was there.
+pub struct Cut {
+    pub at: usize,
+    pub len: usize,
+    pub ended: bool,
+}
+
+// Holds as many bytes of a piece as there is room for behind those that are held, and gives how many are held then.
+pub fn hold(line: &mut [u8], held: usize, piece: &[u8]) -> usize
+    ensures { λ r. ⌜ (r ≡ min (held + length (now (piece .entry))) (length (now (line .entry)))) × (now (line .exit) ≡ heldIn (now (line .entry)) held (now (piece .entry))) ⌝ }
+{
+    if line.len() < held {
+        return line.len();
+    }
+    let n = front(piece, line.len() - held);
+    digits::append(line, held, &piece[..n])
+}
+
+// Moves the bytes up to the next line end to a line that holds some already. A line that fills what is lent may have had more.
+// The second clause follows from the first, and spares callers that proof.
+pub fn take_line(chunk: &[u8], from: usize, line: &mut [u8], held: usize) -> Cut
+    ensures { λ r. ⌜ (r ≡ cutAt (now (chunk .entry)) from (length (now (line .entry))) held) × (now (line .exit) ≡ heldIn (now (line .entry)) held (pieceAt (now (chunk .entry)) from)) ⌝ }
+    ensures { λ r. ⌜ r .at ≡ min (from + length (pieceAt (now (chunk .entry)) from) + 1) (length (now (chunk .entry))) ⌝ }
+{
+    let first = front(chunk, from);
+    let end = until(chunk, first, 10);
+    let len = hold(line, held, &chunk[first..end]);
+    if end < chunk.len() {
+        return Cut {
+            at: end + 1,
+            len,
+            ended: true,
+        };
+    }
+    Cut {
+        at: end,
+        len,
+        ended: false,
+    }
 }
 
 // ---- hex in

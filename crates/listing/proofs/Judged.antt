@@ -30,7 +30,8 @@ use Rattle.digits.specs.declared.Number.the-variants.{Is, Bad}
 use Rattle.digits.specs.Decimals.{Within, decimalOf}
 use Rattle.digits.proofs.Decimals.{decimal-within}
 use Rattle.listing.specs.declared.CountAnswer.the-variants.{Count, NoCount}
-use Rattle.listing.specs.Listing.{short, without, asCount, stampLine, countLine}
+use Rattle.lines.specs.Words.{without}
+use Rattle.listing.specs.Listing.{short, asCount, stampLine, countLine}
 
 -- ---- the count
 

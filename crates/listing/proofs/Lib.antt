@@ -1,4 +1,3 @@
-pub mod Lines
 pub mod Row
 pub mod Rows
 pub mod Judged

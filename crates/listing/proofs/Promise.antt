@@ -18,8 +18,8 @@ use Rattle.leap.specs.declared.TableAnswer.{TableAnswer}
 use Rattle.leap.specs.declared.TableAnswer.the-variants.{Read as BlockGood, Refused as BlockBad}
 use Rattle.text.specs.declared.TextAnswer.{TextAnswer}
 use Rattle.text.specs.declared.TextAnswer.the-variants.{Read, Refused as NotRead}
-use Rattle.lines.specs.Words.{before}
-use Rattle.listing.specs.Listing.{lineOf, blockLine, stampLine, countLine, refusalText, afterBlock, afterStamp, fromCount, fromStamp, fromBlock, listed}
+use Rattle.lines.specs.Words.{before, lineOf}
+use Rattle.listing.specs.Listing.{blockLine, stampLine, countLine, refusalText, afterBlock, afterStamp, fromCount, fromStamp, fromBlock, listed}
 use Rattle.listing.specs.Promise.{Listings}
 use Rattle.listing.proofs.Row.{tai-column}
 

@@ -3,9 +3,9 @@
 use Prim.Native.Nat.{ℕ, zero, suc, _+_}
 use mathlib.Core.Bool.{Bool}
 use mathlib.Core.List.{List, [], _∷_, _++_}
-use lib.Dec.{eqb, leb}
+use lib.Dec.{leb}
 use lib.IntN.{ℤ, pos, _+ℤ_, _-ℤ_}
-use lib.ListN.{length, drop}
+use lib.ListN.{length}
 use Rattle.answer.specs.declared.Refusal.{Refusal}
 use Rattle.answer.specs.declared.Refusal.the-variants.{Shape as SHAPE, Ask as ASK}
 use Rattle.answer.specs.Refusals.{number, refusing}
@@ -28,7 +28,7 @@ use Rattle.digits.specs.Bytes.{ascii}
 use Rattle.text.specs.Text.{textOf, readText}
 use Rattle.digits.specs.declared.Number.{Number}
 use Rattle.digits.specs.declared.Number.the-variants.{Is, Bad}
-use Rattle.lines.specs.Words.{before}
+use Rattle.lines.specs.Words.{lineOf, without}
 use Rattle.digits.specs.Decimals.{decimalOf}
 use Rattle.lines.specs.Pairs.{paired, allPairs}
 use Rattle.digits.specs.Decimals.{decimalText, signedText}
@@ -37,18 +37,9 @@ use Rattle.listing.specs.declared.CountAnswer.the-variants.{Count, NoCou
 
 -- ---- the three lines
 
--- line k of the input, counted from 0: the bytes up to a line end (10) or the end of the input; a missing line is empty
-unfoldable pub lineOf : List ℕ → ℕ → List ℕ
-lineOf s zero = before 10 s
-lineOf s (suc k) = lineOf (drop (length (before 10 s) + 1) s) k
-
 -- any line over 1,024 characters is bad
 abbrev pub short : List ℕ → Bool
 short line = leb (length line) 1024
-
--- the byte b does not stand in the line
-abbrev pub without : ℕ → List ℕ → Bool
-without b line = eqb (length (before b line)) (length line)
 
 -- a block in hex
 unfoldable pub blockLine : List ℕ → TableRead

@@ -10,7 +10,8 @@ use Rattle.labels.specs.declared.Label.{Label}
 use Rattle.labels.specs.Labels.{whole}
 use Rattle.stamp.specs.declared.Scale.the-variants.{Utc}
 use Rattle.stamp.specs.Scales.{instantFor}
-use Rattle.listing.specs.Listing.{lineOf, taiSecond, listed}
+use Rattle.lines.specs.Words.{lineOf}
+use Rattle.listing.specs.Listing.{taiSecond, listed}
 
 pub record Listings : Type 0 where
   -- the second column is the instant of the first, in seconds

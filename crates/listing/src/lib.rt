@@ -12,9 +12,9 @@ ghost use Rattle.answer.specs.declared.Refusal.the-variants.{Shape as SHAPE};
 ghost use Rattle.leap.specs.Readers.{refusedAt};
 ghost use Rattle.leap.specs.Leap.{accepted};
 ghost use Rattle.clock.specs.Promise.{admits};
-ghost use Rattle.lines.specs.Words.{before};
+ghost use Rattle.lines.specs.Words.{lineOf};
 ghost use Rattle.digits.specs.Bytes.{Placed};
-ghost use Rattle.listing.specs.Listing.{lineOf, blockLine, stampLine, countLine, refusalText, header, rowText, rowsFrom, fromCount, fromStamp, fromBlock, listed};
+ghost use Rattle.listing.specs.Listing.{blockLine, stampLine, countLine, refusalText, header, rowText, rowsFrom, fromCount, fromStamp, fromBlock, listed};
 use answer::Refusal;
 use answer::Written;
 use clock::TickAnswer;
@@ -43,28 +43,11 @@ pub struct Line {
 
 // ---- the three lines
 
-// The start of the next line; the end where there is none.
-fn after_line(s: &[u8], at: usize) -> usize
-    requires { ⌜ at ≤ length (now s) ⌝ }
-    ensures { λ r. ⌜ (drop r (now (s .entry)) ≡ drop (length (before 10 (drop at (now (s .entry)))) + 1) (drop at (now (s .entry)))) × (r ≤ length (now (s .entry))) ⌝ }
-{
-    let end = lines::until(s, at, 10);
-    if end < s.len() {
-        return end + 1;
-    }
-    s.len()
-}
-
 // The line k, counted from 0.
 fn nth_line(s: &[u8], k: usize) -> Line
     ensures { λ r. ⌜ (take (r .end - r .from) (drop (r .from) (now (s .entry))) ≡ lineOf (now (s .entry)) k) × (r .from ≤ r .end) × (r .end ≤ length (now (s .entry))) ⌝ }
 {
-    let mut from = 0;
-    let mut left = k;
-    while left > 0 {
-        from = after_line(s, from);
-        left -= 1;
-    }
+    let from = lines::line_start(s, k);
     let end = lines::until(s, from, 10);
     Line { from, end }
 }

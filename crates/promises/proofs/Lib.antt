@@ -2,6 +2,7 @@ pub mod Answers
 pub mod Settled
 pub mod SettledInC
 pub mod SettledParts
+pub mod SettledDesk
 pub mod Orders
 pub mod Constants
 pub mod Writers
@@ -13,4 +14,5 @@ pub mod Vouched
 pub mod Clock
 pub mod Julian
 pub mod Listing
+pub mod Desk
 pub mod Worked

@@ -1,9 +1,9 @@
 -- Most contracts are equations. Some also say what follows from theirs: that a count stands within a buffer, that a digit is at most 16.
 -- Assumes nothing.
-use mathlib.Core.Path.{_≡_, refl, sym, ap, ap₂, subst}
+use mathlib.Core.Path.{_≡_, refl, sym, ap, ap₂, subst, _∙_}
 use mathlib.Core.Bool.{Bool, true, false, cond, _&&_}
 use mathlib.Core.List.{List, [], _∷_}
-use Prim.Native.Nat.{ℕ, _+_, min, _≤_}
+use Prim.Native.Nat.{ℕ, zero, suc, _+_, min, _≤_}
 use native.Mathlib.Omega.{arith}
 use borrow.Author.Tests.{leb-true, leb-false}
 use lib.Dec.{eqb, leb}
@@ -15,8 +15,10 @@ use Rattle.laws.specs.Placed.{place}
 use Rattle.digits.specs.Bytes.{endOf, appended, Counts, Appended}
 use Rattle.digits.proofs.Bytes.{room-yes, room-no}
 use Rattle.digits.proofs.Decimals.{value-most}
-use Rattle.lines.specs.Words.{before}
+use Rattle.lines.specs.Words.{before, past, lineOf, lineStart}
+use Rattle.lines.specs.Cuts.{cutAt}
 use Rattle.lines.specs.Pairs.{nibble}
+use Rattle.lines.proofs.Lines.{line-next}
 use Rattle.fields.specs.declared.Cursor.{Cursor}
 use Rattle.fields.specs.declared.U32Field.{U32Field}
 use Rattle.fields.specs.declared.I32Field.{I32Field}
@@ -95,6 +97,27 @@ few-before b (x ∷ s) = go (eqb x b) (few-before b s)
 front-counts : (n : ℕ) (s : List ℕ) → Counts (min n (length s)) s
 front-counts n s = (omega arith, sym (length-take-le (min n (length s)) s (omega arith)))
 
+-- the lines of a text from where line k begins
+lines-from : (s : List ℕ) (k j : ℕ) → lineOf (drop (lineStart s k) s) j ≡ lineOf s (k + j)
+unfolding lineStart
+lines-from s zero j = let e : j ≡ 0 + j = omega arith in ap (lineOf s) e
+lines-from s (suc k) j = let e : k + suc j ≡ suc k + j = omega arith in line-next s (lineStart s k) j ∙ lines-from s k (suc j) ∙ ap (lineOf s) e
+
+start-inside : (s : List ℕ) (k : ℕ) → lineStart s k ≤ length s
+unfolding lineStart
+start-inside s zero = omega arith
+start-inside s (suc k) = omega arith
+
+-- line k begins there, and the start stands within the text
+starts-line : (s : List ℕ) (k : ℕ) → (before 10 (drop (lineStart s k) s) ≡ lineOf s k) × (lineStart s k ≤ length s)
+unfolding lineOf
+starts-line s k = let e : k + 0 ≡ k = omega arith in (lines-from s k 0 ∙ ap (lineOf s) e, start-inside s k)
+
+-- where a chunk goes on, by its name
+goes-on : (chunk : List ℕ) (from size held : ℕ) → cutAt chunk from size held .at ≡ past 10 chunk from
+unfolding cutAt
+goes-on chunk from size held = refl
+
 low : {x y : ℕ} (t : Bool) → (t ≡ true → x ≤ 16) → y ≤ 16 → cond t x y ≤ 16
 low true h k = h refl
 low false h k = k
@@ -123,6 +146,7 @@ settled-bytes =
       is-digit = λ b k. equal;
       digit-value = λ b k. following (λ r. r ≤ 9) (value-most b);
       decimal = λ word most k. equal;
+      magnitude = λ z k. equal;
       digits = λ n k. equal;
       month-name = λ m k. equal;
       month-named = λ a b c k. equal;
@@ -131,8 +155,16 @@ settled-bytes =
       until = λ s from b k.
           let few : length (before b (drop from (s .now))) ≤ length (drop from (s .now)) = few-before b (drop from (s .now)) in
           following (λ r. (from ≤ length (s .now) → r ≤ length (s .now)) × (from ≤ r)) ((λ h. omega (arith, few, length-drop from (s .now)), omega arith));
+      past = λ s from b k. following (λ r. r ≤ length (s .now)) (omega arith);
+      line-start = λ s n k. following (λ r. (before 10 (drop r (s .now)) ≡ lineOf (s .now) n) × (r ≤ length (s .now))) (starts-line (s .now) n);
       front = λ s n k.
           record { asks-nothing = tt; allows-it-alone = λ r. (λ p. p .1, λ p. (subst (λ (x : ℕ). Counts x (s .now)) (sym p) (front-counts n (s .now)), p)) };
+      hold = λ line held piece k. each;
+      take-line = λ chunk from line held k.
+          record {
+            asks-nothing = tt;
+            allows-it-alone = λ o. (λ p. ap₂ (λ x y. (x, y)) (p .0 .0) (p .0 .1), λ p. ((ap (λ q. q .0) p, ap (λ q. q .1) p), ap (λ q. q .0 .at) p ∙ goes-on (chunk .now) from (length (line .now)) held));
+          };
       hex-digit = λ b k. following (λ r. r ≤ 16) (nibble-low b);
       hex = λ word out k. each;
       ended = λ line c k. equal;

@@ -3,7 +3,7 @@
 use mathlib.Core.List.{List, [], _∷_}
 use mathlib.Core.Bool.{Bool, false, cond, _&&_}
 use Prim.Native.Nat.{ℕ, _+_, _-_, _^_, min}
-use lib.IntN.{ℤ}
+use lib.IntN.{ℤ, natAbs}
 use lib.Dec.{eqb}
 use lib.Ieee.{Float, binary64, ofBits, toBits}
 use lib.ListN.{length, drop, getD}
@@ -38,7 +38,8 @@ use Rattle.automaton.specs.Step.{step}
 use Rattle.pictures.specs.declared.Fields.{Fields}
 use Rattle.pictures.specs.Pictures.{pictureText}
 use Rattle.pictures.specs.Reading.{readFields}
-use Rattle.lines.specs.Words.{before}
+use Rattle.lines.specs.Words.{before, past, lineStart}
+use Rattle.lines.specs.Cuts.{pieceAt, cutAt, heldIn}
 use Rattle.lines.specs.Pairs.{nibble, hexOf, hexInto, hexShown}
 use Rattle.fields.specs.declared.Cursor.{Cursor}
 use Rattle.fields.specs.declared.U32Field.{U32Field}
@@ -55,6 +56,7 @@ use Rattle.digits.proofs.is_digit.Reads as digits-is-digit
 use Rattle.digits.proofs.digit_value.Reads as digits-digit-value
 use Rattle.digits.proofs.decimal.Reads as digits-decimal
 use Rattle.digits.proofs.digits.Reads as digits-digits
+use Rattle.digits.proofs.magnitude.Reads as digits-magnitude
 use Rattle.digits.proofs.append_unsigned.Reads as digits-append-unsigned
 use Rattle.digits.proofs.append_signed.Reads as digits-append-signed
 use Rattle.digits.proofs.month_name.Reads as digits-month-name
@@ -104,7 +106,11 @@ use Rattle.kinds.proofs.month_on.Reads as kinds-month-on
 use Rattle.kinds.proofs.month_number.Reads as kinds-month-number
 use Rattle.automaton.proofs.step.Reads as automaton-step
 use Rattle.lines.proofs.until.Reads as lines-until
+use Rattle.lines.proofs.past.Reads as lines-past
+use Rattle.lines.proofs.line_start.Reads as lines-line-start
 use Rattle.lines.proofs.front.Reads as lines-front
+use Rattle.lines.proofs.hold.Reads as lines-hold
+use Rattle.lines.proofs.take_line.Reads as lines-take-line
 use Rattle.lines.proofs.hex_digit.Reads as lines-hex-digit
 use Rattle.lines.proofs.hex.Reads as lines-hex
 use Rattle.lines.proofs.append_hex.Reads as lines-append-hex
@@ -180,6 +186,7 @@ pub record SettledBytes : Type 0 where
   pub is-digit : (b : ℕ) → Returns digits-is-digit.Pre digits-is-digit.Post (b & tt) (isDigit b)
   pub digit-value : (b : ℕ) → Returns digits-digit-value.Pre digits-digit-value.Post (b & tt) (digitValue b)
   pub decimal : (word : Lent (List ℕ)) (most : ℕ) → Returns digits-decimal.Pre digits-decimal.Post (word & most & tt) (decimalOf most (now word))
+  pub magnitude : (z : ℤ) → Returns digits-magnitude.Pre digits-magnitude.Post (z & tt) (natAbs z)
   pub digits : (n : ℕ) → Returns digits-digits.Pre digits-digits.Post (n & tt) (digitsOf 6 n)
   pub month-name : (month : ℕ) → Returns digits-month-name.Pre digits-month-name.Post (month & tt) (monthName month)
   pub month-named : (a b c : ℕ) → Returns digits-month-named.Pre digits-month-named.Post (a & b & c & tt) (monthNamed (a ∷ b ∷ c ∷ []))
@@ -188,7 +195,15 @@ pub record SettledBytes : Type 0 where
       (written [] (pictureText f) (now out), bufferAfter [] (pictureText f) (now out))
   pub read-fields : (text : Lent (List ℕ)) → Returns pictures-read-fields.Pre pictures-read-fields.Post (text & tt) (readFields (now text))
   pub until : (s : Lent (List ℕ)) (from b : ℕ) → Returns lines-until.Pre lines-until.Post (s & from & b & tt) (from + length (before b (drop from (now s))))
+  pub past : (s : Lent (List ℕ)) (from b : ℕ) → Returns lines-past.Pre lines-past.Post (s & from & b & tt) (past b (now s) from)
+  pub line-start : (s : Lent (List ℕ)) (k : ℕ) → Returns lines-line-start.Pre lines-line-start.Post (s & k & tt) (lineStart (now s) k)
   pub front : (s : Lent (List ℕ)) (n : ℕ) → Returns lines-front.Pre lines-front.Post (s & n & tt) (min n (length (now s)))
+  pub hold : (line : Lent (List ℕ)) (held : ℕ) (piece : Lent (List ℕ)) →
+      Leaves lines-hold.Pre lines-hold.Post (line & held & piece & tt) (λ after. line becomes after & held & piece & tt)
+      (min (held + length (now piece)) (length (now line)), heldIn (now line) held (now piece))
+  pub take-line : (chunk : Lent (List ℕ)) (from : ℕ) (line : Lent (List ℕ)) (held : ℕ) →
+      Leaves lines-take-line.Pre lines-take-line.Post (chunk & from & line & held & tt) (λ after. chunk & from & line becomes after & held & tt)
+      (cutAt (now chunk) from (length (now line)) held, heldIn (now line) held (pieceAt (now chunk) from))
   pub hex-digit : (b : ℕ) → Returns lines-hex-digit.Pre lines-hex-digit.Post (b & tt) (nibble b)
   pub hex : (word out : Lent (List ℕ)) →
       Leaves lines-hex.Pre lines-hex.Post (word & out & tt) (λ after. word & out becomes after & tt)

@@ -1,6 +1,7 @@
 // Reads three lines and nothing past the third, and prints what `listing` says of them.
 // That 3,075 bytes are enough is `enough-read` of listing's promise; past a third line's end there is nothing that it looks at.
 use answer::Written;
+use libc::STDERR_FILENO;
 use libc::STDIN_FILENO;
 use libc::STDOUT_FILENO;
 
@@ -9,12 +10,19 @@ pub enum Got {
     End,
 }
 
-// Reads one byte. A read error is like the end of the input.
+fn complain(text: &[u8]) {
+    io::write_all(STDERR_FILENO, text);
+}
+
+// Reads one byte. A read that fails is told, and is the end of the input.
 fn read_byte() -> Got {
     let mut one = [0u8; 1];
     let got = libc::read(STDIN_FILENO, &mut one);
     if got == 1 {
         return Got::Byte(digits::byte_at(&one, 0));
+    }
+    if got < 0 {
+        complain(b"ticks: the input cannot be read\n");
     }
     Got::End
 }
@@ -52,7 +60,9 @@ fn fill(buf: &mut [u8]) -> usize {
 fn print(out: &[u8], w: Written) {
     if let Written::Wrote(n) = w {
         let e = lines::front(out, n);
-        io::write_all(STDOUT_FILENO, &out[..e]);
+        if !io::write_all(STDOUT_FILENO, &out[..e]) {
+            complain(b"ticks: the output cannot be written\n");
+        }
     }
 }
 

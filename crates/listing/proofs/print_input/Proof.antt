@@ -5,7 +5,8 @@ use mathlib.Core.List.{List}
 use Prim.Native.Nat.{ℕ}
 use borrow.Author.Needs.{needs}
 use Rattle.digits.proofs.Bytes.{placed-as}
-use Rattle.listing.specs.Listing.{lineOf, fromBlock, listed}
+use Rattle.lines.specs.Words.{lineOf}
+use Rattle.listing.specs.Listing.{fromBlock, listed}
 use Rattle.listing.proofs.print_input.Statement.{statement}
 use Rattle.listing.proofs.print_input.Tie as tie
 

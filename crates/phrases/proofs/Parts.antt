@@ -1,0 +1,68 @@
+-- Bytes that are the same, the first place of a word, and what was given as it is shown.
+-- Assumes nothing.
+use mathlib.Core.Path.{_≡_, refl, sym, ap, _∙_}
+use mathlib.Core.Bool.{Bool, true, false, cond}
+use mathlib.Core.List.{List, [], _∷_, _++_}
+use Prim.Native.Nat.{ℕ, suc, _+_, _-_, _≤_, _<_, min}
+use native.Mathlib.Omega.{arith}
+use native.Mathlib.Numerals.{add-one}
+use borrow.Author.Tests.{eq-eqb}
+use lib.Dec.{eqb}
+use lib.ListN.{length, take, drop, getD, length-drop, drop-of-length-le}
+use lib.Seq.{drop-cons, take-suc, take-all}
+use Rattle.laws.proofs.Placed.{take-min}
+use Rattle.digits.specs.Bytes.{sameBytes}
+use Rattle.digits.proofs.Bytes.{same-true}
+use Rattle.phrases.specs.Parts.{beginsWith, upTo, shownByte, quoted}
+
+-- ---- the same bytes
+
+pub same-self : (a : List ℕ) → sameBytes a a ≡ true
+same-self [] = refl
+same-self (x ∷ a) = rw (eq-eqb x x refl, same-self a)
+
+-- a comparison that answers true exactly for the same bytes
+pub same-is : (r : Bool) (a b : List ℕ) → (r ≡ true → a ≡ b) → (a ≡ b → r ≡ true) → r ≡ sameBytes a b
+same-is true a b f g = sym (ap (sameBytes a) (sym (f refl)) ∙ same-self a)
+same-is false a b f g = go (sameBytes a b) refl
+  where
+    go : (t : Bool) → sameBytes a b ≡ t → false ≡ sameBytes a b
+    go true e = let z : false ≡ true = g (same-true a b e) in cc
+    go false e = sym e
+
+pub begins-is : (r : Bool) (word s : List ℕ) {k : ℕ} → k ≡ min (length word) (length s) → (r ≡ true → take k s ≡ word) → (take k s ≡ word → r ≡ true) → r ≡ beginsWith word s
+unfolding beginsWith
+begins-is r word s {k} n f g =
+    let m : k ≡ min (length s) (length word) = omega arith in
+    let e : take k s ≡ take (length word) s = ap (λ (j : ℕ). take j s) m ∙ take-min (length word) s in
+    same-is r (take k s) word f g ∙ ap (λ (x : List ℕ). sameBytes x word) e
+
+-- ---- the first place of a word
+
+-- the slice from an index on
+pub rest-is : (s : List ℕ) (i : ℕ) → take (length s - i) (drop i s) ≡ drop i s
+rest-is s i = take-all (length s - i) (drop i s) (simp length-drop (omega arith))
+
+module _ (word s : List ℕ) (i : ℕ) where
+  pub up-here : i < length s → beginsWith word (drop i s) ≡ true → upTo word (drop i s) ≡ []
+  unfolding upTo
+  up-here h e = let q : beginsWith word (getD s i 0 ∷ drop (suc i) s) ≡ true = rw (← drop-cons s i 0 h) e in rw (drop-cons s i 0 h, q)
+
+  pub up-more : i < length s → beginsWith word (drop i s) ≡ false → upTo word (drop i s) ≡ getD s i 0 ∷ upTo word (drop (i + 1) s)
+  unfolding upTo
+  up-more h e = let q : beginsWith word (getD s i 0 ∷ drop (suc i) s) ≡ false = rw (← drop-cons s i 0 h) e in rw (drop-cons s i 0 h, q, add-one)
+
+  pub up-end : length s ≤ i → upTo word (drop i s) ≡ []
+  unfolding upTo
+  up-end h = rw (drop-of-length-le s h)
+
+-- ---- what was given
+
+pub quoted-joined : (a b : List ℕ) → quoted (a ++ b) ≡ quoted a ++ quoted b
+unfolding quoted
+quoted-joined [] b = refl
+quoted-joined (x ∷ a) b = ap (λ (l : List ℕ). shownByte x ∷ l) (quoted-joined a b)
+
+pub quoted-more : (s : List ℕ) (i : ℕ) → i < length s → quoted (take (i + 1) s) ≡ quoted (take i s) ++ (shownByte (getD s i 0) ∷ [])
+unfolding quoted
+quoted-more s i h = rw (add-one, take-suc s i 0 h, quoted-joined)

@@ -1,0 +1,149 @@
+-- Both instants, by the ticks of the clock and by what the labels show; a difference of two; and what the desk answers of them.
+-- Assumes nothing.
+use mathlib.Core.Path.{_≡_, refl, sym, ap, _∙_}
+use mathlib.Core.Bool.{true, false, _||_}
+use mathlib.Core.List.{List, _++_}
+use Prim.Native.Nat.{ℕ, _+_, _*_}
+use native.Mathlib.Omega.{arith}
+use lib.IntN.{ℤ, pos, _+ℤ_, _-ℤ_, _*ℤ_}
+use lib.ListN.{length, drop}
+use lib.Signed.{ltZ, _≤ℤ_, _<ℤ_}
+use Rattle.laws.proofs.Branches.{cond-yes, cond-rest}
+use Rattle.laws.proofs.Cases.{by-test}
+use Rattle.laws.proofs.Difference.{up, down, sum-is, diff-is, eq-to, eq-from, lt-to, le-to, ltZ-true, ltZ-false}
+use Rattle.laws.proofs.Machine.{times-is}
+use Rattle.leap.specs.declared.Table.{Table}
+use Rattle.leap.specs.Leap.{accepted, offsetAt}
+use Rattle.labels.specs.declared.Reading.{Reading}
+use Rattle.labels.specs.Labels.{whole}
+use Rattle.labels.specs.Seconds.{microOf, axisOf}
+use Rattle.labels.proofs.Admitted.{admitted-to, admitted-from}
+use Rattle.labels.proofs.Years.{axis-is}
+use Rattle.stamp.specs.declared.Scale.the-variants.{Utc}
+use Rattle.stamp.specs.declared.Stamp.{Stamp}
+use Rattle.stamp.specs.Promise.{Reads}
+use Rattle.stamp.proofs.Scales.{instant-is}
+use Rattle.clock.specs.Promise.{firstLabel, admits, Shows}
+use Rattle.clock.proofs.Promise.{all-tick}
+use Rattle.text.specs.Text.{readText, textResults}
+use Rattle.text.specs.Promise.{AcceptedAs, Names}
+use Rattle.text.proofs.Exactly.{read-exactly}
+use Rattle.digits.specs.Bytes.{ascii}
+use Rattle.lines.specs.Words.{before}
+use Rattle.phrases.specs.Replies.{answering}
+use Rattle.seconds.specs.Seconds.{secondsText}
+use Rattle.stampwords.specs.declared.Steps.the-variants.{Count}
+use Rattle.stampwords.specs.declared.SpanAnswer.the-variants.{Lasts}
+use Rattle.stampwords.specs.Stamps.{stampRead}
+use Rattle.stampwords.specs.Spans.{stepsBetween, stepsInOrder, stepsText, spanOf, betweenAnswer, betweenReply, realName, cell, sheetRow, passAnswer, passReply}
+use Rattle.stampwords.proofs.Spans.{span-of-two}
+use Rattle.promises.specs.Desk.{offsetOn, Elapsed, Between, ReadOnUtc, markOf, OnTheDesk}
+
+-- ---- one reading
+
+module _ (t : Table) (r : Reading) (x : ℤ) (h : Reads t Utc r x) where
+  -- its label's whole second is admitted too
+  whole-admitted : admits t (r .label) ≡ true
+  whole-admitted =
+      let a = admitted-to (offsetAt t) 60 r (h .is-admitted) in
+      admitted-from (offsetAt t) 60 (whole (r .label))
+      (record {
+        since-1972 = a .since-1972;
+        until-9999 = a .until-9999;
+        exists = a .exists;
+        on-clock = record { hour-high = a .on-clock .hour-high; minute-high = a .on-clock .minute-high; second-most = a .on-clock .second-most; micro-high = omega arith };
+      })
+
+  -- its instant by what it shows, in naturals
+  by-shown : up x + (1000000 * down (offsetOn t (r .label)) + 63113947200000000) ≡ microOf r + 1000000 * up (offsetOn t (r .label)) + down x
+  by-shown = omega (arith, instant-is Utc (microOf r) (offsetOn t (r .label)), eq-to (h .instant-is))
+
+  -- and by the ticks, from the first label's place on UTC's axis
+  module _ (ok : accepted t ≡ true) (n : ℕ) (e : Shows t n (r .label)) where
+    by-count : up x + (down (axisOf (offsetAt t) (whole firstLabel)) + 63113947200000000) ≡ up (axisOf (offsetAt t) (whole firstLabel)) + (1000000 * n + r .micro) + down x
+    by-count =
+        let f : ℤ = axisOf (offsetAt t) (whole firstLabel) in
+        omega (arith, by-shown, axis-is (microOf (whole (r .label))) (offsetOn t (r .label)), eq-to (all-tick t ok .keeps-the-seconds n (r .label) e), sum-is f (pos (1000000 * n)))
+
+-- ---- two
+
+module _ (t : Table) (ok : accepted t ≡ true) (x y : ℤ) (r s : Reading) (g : Reads t Utc r x) (h : Reads t Utc s y) where
+  ticks-between : (j k : ℕ) → Shows t j (r .label) → Shows t k (s .label) → y -ℤ x ≡ pos (1000000 * k + s .micro) -ℤ pos (1000000 * j + r .micro)
+  ticks-between j k p q =
+      eq-from (y -ℤ x) (pos (1000000 * k + s .micro) -ℤ pos (1000000 * j + r .micro))
+      (omega (arith, by-count t r x g ok j p, by-count t s y h ok k q, diff-is y x, diff-is (pos (1000000 * k + s .micro)) (pos (1000000 * j + r .micro))))
+
+  labels-between : y -ℤ x ≡ (pos (microOf s) -ℤ pos (microOf r)) +ℤ (pos 1000000 *ℤ (offsetOn t (s .label) -ℤ offsetOn t (r .label)))
+  labels-between =
+      let d : ℤ = offsetOn t (s .label) -ℤ offsetOn t (r .label) in
+      let u : ℤ = pos (microOf s) -ℤ pos (microOf r) in
+      eq-from (y -ℤ x) (u +ℤ (pos 1000000 *ℤ d))
+      (omega (arith, by-shown t r x g, by-shown t s y h, diff-is y x, diff-is (pos (microOf s)) (pos (microOf r)), diff-is (offsetOn t (s .label)) (offsetOn t (r .label)), times-is 1000000 d, sum-is u (pos 1000000 *ℤ d)))
+
+  elapsed : Elapsed t x y r s
+  elapsed =
+      record {
+        shows-the-first = all-tick t ok .shows-every-second (r .label) (whole-admitted t r x g);
+        shows-the-second = all-tick t ok .shows-every-second (s .label) (whole-admitted t s y h);
+        by-ticks = ticks-between;
+        by-labels = labels-between;
+      }
+
+pub between : Between
+between t from to x y z w p q =
+    let a : Names t 0 from x (z .reading) = read-exactly t 0 from .success x z .0 p .1 in
+    let b : Names t 0 to y (w .reading) = read-exactly t 0 to .success y w .0 q .1 in
+    elapsed t (a .known .a-table) x y (z .reading) (w .reading) (a .reads) (b .reads)
+
+-- ---- what the desk answers
+
+-- the text behind a stamp's clock
+abbrev textIn : List ℕ → List ℕ
+textIn given = drop (length (before 32 given) + 1) given
+
+module _ (t : Table) (given : List ℕ) (x : ℤ) (z : Stamp) (h : ReadOnUtc t given x z) where
+  accepted-as : AcceptedAs t 0 (textIn given) x z
+  unfolding stampRead
+  accepted-as = ap textResults (ap (λ (k : ℕ). readText t k (textIn given)) (sym (h .on-utc)) ∙ h .read)
+
+  is-utc : z .scale ≡ Utc
+  is-utc = read-exactly t 0 (textIn given) .success x z .0 accepted-as .0
+
+-- which of two instants comes first
+not-before : (x y : ℤ) → x ≤ℤ y → ltZ y x ≡ false
+not-before x y h = by-test (ltZ y x) (λ p. absurd (omega (arith, ltZ-true y x p, le-to h))) (λ p. p)
+
+is-before : (x y : ℤ) → x <ℤ y → ltZ x y ≡ true
+is-before x y h = by-test (ltZ x y) (λ p. p) (λ p. absurd (omega (arith, ltZ-false x y p, lt-to h)))
+
+-- of two stamps on UTC
+utc-steps : (t : Table) (z w : Stamp) → z .scale ≡ Utc → w .scale ≡ Utc → stepsBetween t z w ≡ Count (offsetOn t (w .reading .label) -ℤ offsetOn t (z .reading .label))
+utc-steps t z w p q = rw (p, q)
+
+module _ (t : Table) (a b : List ℕ) (x y : ℤ) (z w : Stamp) (g : ReadOnUtc t a x z) (h : ReadOnUtc t b y w) where
+  lasts : spanOf t a b ≡ Lasts (record { micros = y -ℤ x; steps = stepsInOrder t x z y w; beyond = stampRead t a .beyond || stampRead t b .beyond })
+  lasts = sym (span-of-two t a b refl (g .read) (h .read) refl refl)
+
+  between-answer : betweenReply t a b ≡ answering (secondsText (y -ℤ x) ++ (ascii " s" ++ markOf t a b))
+  unfolding betweenReply
+  between-answer = ap (betweenAnswer a b) lasts
+
+  pass-answer : (name : List ℕ) → realName name ≡ true → passReply t name a b ≡ answering (cell name ++ (cell a ++ (cell b ++ (secondsText (y -ℤ x) ++ (ascii "," ++ (stepsText (stepsInOrder t x z y w) ++ markOf t a b))))))
+  unfolding passReply sheetRow
+  pass-answer name e = sym (cond-yes _ e refl) ∙ ap (passAnswer name a b) lasts
+
+  on : x ≤ℤ y → stepsInOrder t x z y w ≡ Count (offsetOn t (w .reading .label) -ℤ offsetOn t (z .reading .label))
+  on e = sym (cond-rest _ (not-before x y e) refl) ∙ utc-steps t z w (is-utc t a x z g) (is-utc t b y w h)
+
+  back : y <ℤ x → stepsInOrder t x z y w ≡ Count (offsetOn t (z .reading .label) -ℤ offsetOn t (w .reading .label))
+  back e = sym (cond-yes _ (is-before y x e) refl) ∙ utc-steps t w z (is-utc t b y w h) (is-utc t a x z g)
+
+pub on-the-desk : OnTheDesk
+on-the-desk t a b x y z w g h =
+    record {
+      between = between-answer t a b x y z w g h;
+      elapsed = between t (textIn a) (textIn b) x y z w (accepted-as t a x z g) (accepted-as t b y w h);
+      pass = pass-answer t a b x y z w g h;
+      steps = on t a b x y z w g h;
+      steps-back = back t a b x y z w g h;
+    }

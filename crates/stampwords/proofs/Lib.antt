@@ -1,0 +1,3 @@
+pub mod Stamps
+pub mod Moves
+pub mod Spans

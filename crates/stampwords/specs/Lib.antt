@@ -1,0 +1,3 @@
+pub mod Stamps
+pub mod Spans
+pub mod Moves

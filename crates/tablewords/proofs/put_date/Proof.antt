@@ -1,0 +1,45 @@
+-- Four texts, one behind another.
+-- Assumes nothing.
+use borrow.Author.Needs.{needs}
+use mathlib.Core.Path.{ap}
+use mathlib.Core.List.{List}
+use Prim.Native.Nat.{ℕ}
+use lib.ListN.{take, drop}
+use Rattle.phrases.proofs.Puts.{puts-as, then}
+use Rattle.tablewords.specs.Words.{dateText}
+use Rattle.tablewords.proofs.put_date.Statement.{statement}
+use Rattle.tablewords.proofs.put_date.Tie as tie
+
+returns : tie.Need-returns
+unfolding dateText
+returns c =
+    let end = c .before .before in
+    let month = end .before .before .before .before .before in
+    let dash = month .before .before .before .before .before .before in
+    let year = dash .before .before .before .before .before in
+    let texts = year .before .before .before .before in
+    then (puts-as (ap (λ (l : List ℕ). take 4 (drop 2 l)) (texts .before .digits .ensures)) (year .put .ensures)) (then (dash .put2 .ensures)
+    (then (puts-as (ap (λ (l : List ℕ). take 2 (drop 4 l)) (texts .digits2 .ensures)) (month .put3 .ensures)) (end .put4 .ensures)))
+
+pub put-date-spec : {M : Type 1} → statement M
+put-date-spec =
+    tie.close
+    (tie.spec
+    (λ c. search needs)
+    (λ c κs. search needs)
+    (λ c. search needs)
+    (λ c κs. search needs)
+    (λ c. search needs)
+    (λ c. search needs)
+    (λ c. search needs)
+    (λ c κs. search needs)
+    (λ c. search needs)
+    (λ c κs. search needs)
+    (λ c. search needs)
+    (λ c. search needs)
+    (λ c. search needs)
+    (λ c κs. search needs)
+    (λ c. search needs)
+    (λ c κs. search needs)
+    (λ c. search needs)
+    returns)

@@ -1,0 +1,96 @@
+-- What loading a leap table and vouching for it answers, and the table afterwards: after a refusal it is the one before.
+-- Assumes nothing.
+use Prim.Native.Nat.{ℕ, _+_, _-_, _*_, _/_}
+use mathlib.Core.Path.{_≡_}
+use mathlib.Core.Bool.{Bool, false, cond, _&&_}
+use mathlib.Core.List.{List, _++_}
+use lib.Dec.{eqb, leb}
+use lib.ListN.{length, take, drop, getD}
+use Rattle.answer.specs.declared.Refusal.{Refusal}
+use Rattle.answer.specs.declared.Refusal.the-variants.{Table as TABLE}
+use Rattle.answer.specs.Refusals.{number}
+use Rattle.digits.specs.Bytes.{ascii}
+use Rattle.digits.specs.Decimals.{decimalText, decimalOf}
+use Rattle.digits.specs.declared.Number.{Number}
+use Rattle.digits.specs.declared.Number.the-variants.{Is, Bad}
+use Rattle.lines.specs.Pairs.{paired, allPairs}
+use Rattle.leap.specs.declared.Table.{Table}
+use Rattle.leap.specs.declared.TableAnswer.{TableAnswer}
+use Rattle.leap.specs.declared.TableAnswer.the-variants.{Read, Refused}
+use Rattle.leap.specs.declared.TableRead.{TableRead}
+use Rattle.leap.specs.Leap.{vouchedTo, accepted}
+use Rattle.block.specs.Reading.{readBlock}
+use Rattle.kernel.specs.Reading.{readKernel}
+use Rattle.phrases.specs.Texts.{refusalText}
+use Rattle.phrases.specs.Replies.{Reply, answering, refusingAs, refusal, Says}
+use Rattle.tablewords.specs.declared.Loaded.{Loaded}
+use Rattle.tablewords.specs.Words.{tableWords}
+
+-- a reply, and the table afterwards
+pub record Load : Type 0 where
+  pub reply : Reply
+  pub table : Table
+
+-- this table from now on, in words
+abbrev pub taking : Table → Load
+taking t = record { reply = answering (tableWords t); table = t }
+
+-- the table stays as it was
+abbrev pub staying : Table → Reply → Load
+staying t r = record { reply = r; table = t }
+
+-- ---- a table that was read
+
+-- a refusal of what was given, with the place
+abbrev pub placedRefusal : Refusal → List ℕ → ℕ → Reply
+placedRefusal why given place = record {
+  text = refusalText (number why) (number why) given ++ (ascii " at byte " ++ decimalText place);
+  good = false;
+}
+
+abbrev pub loadedAs : Table → List ℕ → Table → TableAnswer → Load
+loadedAs t given new Read = taking new
+loadedAs t given new (Refused why place) = staying t (placedRefusal why given place)
+
+abbrev pub loadedBy : Table → List ℕ → TableRead → Load
+loadedBy t given read = loadedAs t given (read .table) (read .answer)
+
+-- pairs of hex digits alone, 512 of them at most: a line has no more
+unfoldable pub isHex : List ℕ → Bool
+isHex s = leb (length s / 2) 512 && allPairs s
+
+unfoldable pub loadBlock : Table → List ℕ → Load
+loadBlock t hex = cond (isHex hex) (loadedBy t hex (readBlock (paired hex))) (staying t (refusingAs 8 20 hex))
+
+-- a file of this name, which can be read or not
+unfoldable pub loadKernel : Table → List ℕ → Bool → List ℕ → Load
+loadKernel t given readable file =
+    cond readable (loadedBy t given (readKernel file)) (staying t (refusingAs 14 21 given))
+
+-- ---- the month that it is vouched for
+
+-- its number by a year and a month: the month plus one, where January 1972 is 0
+abbrev pub monthNumber : Number → Number → Number
+monthNumber (Is y) (Is m) = cond (leb 1972 y) (cond (leb 1 m) (Is (12 * (y - 1972) + m)) Bad) Bad
+monthNumber (Is y) Bad = Bad
+monthNumber Bad m = Bad
+
+-- four digits of a year, `-` (45), and two of a month
+unfoldable pub monthGiven : List ℕ → Number
+monthGiven s =
+    cond (eqb (length s) 7)
+    (cond (eqb (getD s 4 0) 45) (monthNumber (decimalOf 9999 (take 4 s)) (decimalOf 12 (drop 5 s))) Bad)
+    Bad
+
+abbrev pub vouchedBy : Table → List ℕ → Number → Load
+vouchedBy t s (Is v) = cond (accepted (vouchedTo v t)) (taking (vouchedTo v t)) (staying t (refusal TABLE s))
+vouchedBy t s Bad = staying t (refusingAs 8 18 s)
+
+unfoldable pub vouch : Table → List ℕ → Load
+vouch t s = vouchedBy t s (monthGiven s)
+
+-- ---- a reply put into a buffer, and the table with it
+
+pub record Loads (l : List ℕ) (i : ℕ) (load : Load) (r : Loaded) (now : List ℕ) : Type 0 where
+  pub says : Says l i (load .reply) (r .said) now
+  pub table : r .table ≡ load .table
