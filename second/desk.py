@@ -177,9 +177,11 @@ def offset_of_stamp(table, stamp):
 
 
 def steps_between(table, first, last):
-    if first.scale != last.scale:
+    """The steps between two readings, in the order of time."""
+    if first.stamp.scale != last.stamp.scale:
         return b'different clocks'
-    steps = offset_of_stamp(table, last) - offset_of_stamp(table, first)
+    earlier, later = sorted((first, last), key=lambda reading: reading.instant)
+    steps = offset_of_stamp(table, later.stamp) - offset_of_stamp(table, earlier.stamp)
     if steps == 0:
         return b'no second added'
     return b'%d second%s %s' % (abs(steps), b'' if abs(steps) == 1 else b's', b'added' if steps > 0 else b'taken out')
@@ -240,15 +242,15 @@ def answer_pass(table, rest):
     given = two_parts(stamps, b' to ')
     first, last = (read_stamp(table, part) for part in given)
     size = text_of_microseconds(last.instant - first.instant)
-    answer = b','.join((name, *given, size, steps_between(table, first.stamp, last.stamp)))
+    answer = b','.join((*(part.translate(SHOWN_AS) for part in (name, *given)), size, steps_between(table, first, last)))
     return marked(table, answer, first.stamp, last.stamp)
 
 
 def answer_why(_, rest):
-    for number, words in REFUSALS.items():
-        if rest == b'%d' % number:
-            return b'%d %s: %s What to do: %s' % (number, *words)
-    raise NoAnswer(ASK, rest, NO_REFUSAL)
+    number = int(rest) if rest.isdigit() else 0
+    if number not in REFUSALS:
+        raise NoAnswer(ASK, rest, NO_REFUSAL)
+    return b'%d %s: %s What to do: %s' % (number, *REFUSALS[number])
 
 
 def answer_table(table):
