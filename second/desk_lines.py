@@ -17,6 +17,10 @@ NO_CLOCKS = ('', 'utc', 'UT1', 'GPS ', 'GPS\r', 'UTC on GPS')
 LIMIT = desk.LONGEST_LINE
 
 
+# Two seconds taken out, half a year apart.
+TWO_DOWN = second.read_block(bytes.fromhex('030d0d'))
+
+
 def block_line(table):
     return 'table block ' + second.block_of_table(table).hex()
 
@@ -270,7 +274,7 @@ class Lines:
         if kind == 'any':
             line = 'table block ' + random_block(self.dice, self.table).hex()
         else:
-            line = block_line({'one step': self.dice.pick((T, N)), 'bulletin': BULLETIN}.get(kind) or random_table(self.dice))
+            line = block_line({'one step': self.dice.pick((T, N, TWO_DOWN)), 'bulletin': BULLETIN}.get(kind) or random_table(self.dice))
         return self.setting('table block ' + line[12:].upper() if self.dice.chance(0.2) else line)
 
     def setting(self, line):

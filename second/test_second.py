@@ -804,7 +804,7 @@ def test_inputs_of_desk_and_ticks():
     """Each kind of answer is found; the lines are the same each time."""
     stored = list(desk_lines.stored_lines())
     assert len(stored) > 200 and all(map(generate.is_plain, stored)) and 'table kernel leapseconds.tls' in stored
-    for lines in (stored, list(desk_lines.random_lines(1, 6_000))):
+    for lines in (stored, list(desk_lines.random_lines(1, 24_000))):
         assert all('\n' not in line for line in lines)
         found = '\n'.join(desk_answers(*lines))
         assert set(re.findall('^refused ([0-9]+) ', found, re.MULTILINE)) == set(map(str, (*range(2, 13), 14)))
