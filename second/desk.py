@@ -34,8 +34,9 @@ class Words(NamedTuple):
 REFUSALS = {
     ROOM: Words(b'ROOM', b'The result is longer than the buffer that was lent.',
                 b'Lend a longer one. This program never gives it.'),
-    SHAPE: Words(b'SHAPE', b'A stamp looks like 1987-04-12T16:31:12 or 1987-102T16:31:12 or 1986 APR 12 16:31:09 and up to six digits'
-                           b' may follow a point. Not read are a blank for the T; a Z at the end; a stamp without seconds; Dec for DEC.',
+    SHAPE: Words(b'SHAPE', b'A stamp looks like 1987-04-12T16:31:12 or 1987-102T16:31:12 or 1986 APR 12 16:31:09 and one to six digits'
+                           b' may follow a point. Not read are a blank for the T; a Z or a blank or a carriage return at the end; a stamp'
+                           b' without seconds; Dec for DEC.',
                  b'Write it so; behind its clock and one blank.'),
     YEAR: Words(b'YEAR', b'The year is before 1972 or past 9999.', b'Check the year.'),
     DATE: Words(b'DATE', b'The month or the day is zero or too large.', b'Check the date; February 29 is in leap years only.'),
@@ -44,12 +45,14 @@ REFUSALS = {
     NOSECOND: Words(b'NOSECOND', b'UTC has no such second under the table in force.',
                     b'Check the stamp; if it is right then load a newer table.'),
     RANGE: Words(b'RANGE', b'What is asked for lies before 1972 or past 9999 on its clock.', b'Ask for another clock or a smaller step.'),
-    ASK: Words(b'ASK', b'This is no request or a stamp without its clock. The clocks are UTC and TAI and TDT and GPS.',
+    ASK: Words(b'ASK', b'This is no request or a stamp without its clock. The clocks are UTC and TAI and TDT and GPS; help lists the'
+                       b' requests.',
                b'Put the clock in front of each stamp; help lists the requests.'),
     CUT: Words(b'CUT', b'The block ends too soon.', b'Copy it again from its beginning to its end.'),
     GROUPS: Words(b'GROUPS', b'A number of the block is not in its shortest form.', b'Ask whoever sent the block for a new one.'),
-    TABLE: Words(b'TABLE', b'This is no leap table; or its last entry lies after the month that it is to be vouched for.',
-                 b'Check the months and the offsets; or give a later month.'),
+    TABLE: Words(b'TABLE', b'The leap table is not right or none is loaded; or its last entry lies after the month that it is to be'
+                           b' vouched for.',
+                 b'Load a right table; or give a later month.'),
     TAIL: Words(b'TAIL', b'The block goes on behind its last entry.', b'Copy the block alone.'),
     NUMBER: Words(b'NUMBER', b'This is no pair of a midnight and a fraction.',
                   b'Give a midnight that ends in .5 and a fraction below 1.'),
@@ -77,7 +80,14 @@ class NoAnswer(Exception):
         self.place = place
 
 
-SHOWN_AS = bytes(byte if 32 <= byte <= 126 else ord('?') for byte in range(256))
+class NotLoaded(NoAnswer):
+    """The refusal of a block or of a kernel: behind it no table is in force."""
+
+
+NO_TABLE = second.Table(0, (), ())  # it has no entries, and every call that needs a table refuses it
+
+
+SHOWN_AS = bytes(byte if 32 <= byte <= 126 and byte not in b'",' else ord('?') for byte in range(256))
 
 
 def refusal(line, no_answer):
@@ -193,7 +203,7 @@ def date_of_month(month):
 
 def entries(table):
     """Each entry's month and offset."""
-    return list(zip(table.used_months, table.offsets))
+    return list(zip(table.months[:table.count], table.offsets))
 
 
 def table_in_words(table):
@@ -277,11 +287,11 @@ pictures: 1987-04-12T16:31:12 1987-102T16:31:12 1986 APR 12 16:31:09 and up to s
 
 def table_of_block(_, rest):
     if not second.HEX.fullmatch(rest):
-        raise NoAnswer(ASK, rest, NO_HEX)
+        raise NotLoaded(ASK, rest, NO_HEX)
     try:
         return second.read_block(bytes.fromhex(rest.decode()))
     except Refused as refused:
-        raise NoAnswer(refused.number, rest, place=refused.place) from None
+        raise NotLoaded(refused.number, rest, place=refused.place) from None
 
 
 def front_of_file(name):
@@ -290,14 +300,14 @@ def front_of_file(name):
         with open(name, 'rb') as file:
             return file.read(MOST_KERNEL_BYTES + 1)
     except (OSError, ValueError):  # ValueError: a name with a NUL
-        raise NoAnswer(KERNEL, name, NO_FILE) from None
+        raise NotLoaded(KERNEL, name, NO_FILE) from None
 
 
 def table_of_kernel(_, rest):
     try:
         return second.read_kernel(front_of_file(rest))
     except Refused as refused:
-        raise NoAnswer(refused.number, rest, place=refused.place) from None
+        raise NotLoaded(refused.number, rest, place=refused.place) from None
 
 
 def table_vouched(table, rest):
@@ -327,7 +337,7 @@ TABLES = {
 
 class Answer(NamedTuple):
     text: bytes  # without its last line feed
-    table: second.Table  # in force behind it
+    table: second.Table  # in force behind it, or NO_TABLE
     is_good: bool
 
 
@@ -354,6 +364,8 @@ def answer_request(table, line):
 def answer(table, line):
     try:
         return Answer(*answer_request(table, line), True)
+    except NotLoaded as not_loaded:
+        return Answer(refusal(line, not_loaded), NO_TABLE, False)
     except NoAnswer as no_answer:
         return Answer(refusal(line, no_answer), table, False)
 

@@ -6,10 +6,14 @@ lines lie about that table's leap seconds.  Lines are text of the characters 0
 to 255, one to a byte, without line feeds.
 """
 
+import os
+import re
+import shutil
+
 import desk
 import second
-from generate import (BEGIN_DATA, BULLETIN, DECIMALS, N, OURS, PICTURES, T, WRONG_DECIMALS, Dice, damaged_once, published_kernel,
-                      random_block, random_instant, random_table, random_text, random_vouched_number)
+from generate import (BEGIN_DATA, BULLETIN, DECIMALS, N, OURS, PICTURES, T, WRONG_DECIMALS, Dice, damaged_once, edges_of,
+                      published_kernel, random_block, random_instant, random_table, random_text, random_vouched_number)
 from second import GPS, LAST_MONTH, SECOND, TAI, TDT, UTC, Refused
 
 CLOCKS = [name.decode() for name in desk.CLOCKS]
@@ -38,7 +42,7 @@ def to_size(begin, end, size, filling='x'):
 
 
 # ---------------------------------------------------------------------------
-# Files that `compare` lays beside the stored kernel
+# Files that are laid beside the stored kernel for random lines
 
 KERNEL_FILES = {
     'published.tls': published_kernel(),
@@ -55,12 +59,32 @@ NO_FILES = ('no-such-file', '.', '..', '', ' ', './', 'no-such-file/x', STORED_K
             STORED_KERNEL + '\x00', '\xff\xfe', 'n' * 300)
 
 
-def table_of_file(name, table):
-    """The table that is in force once this file of ours is asked for."""
+def lay_out_kernels(folder):
+    """For `desk` to run there."""
+    shutil.copy(os.path.join(os.path.dirname(os.path.abspath(__file__)), '..', 'examples', STORED_KERNEL), folder)
+    for name, file in KERNEL_FILES.items():
+        with open(os.path.join(os.fsencode(folder), name.encode('latin-1')), 'wb') as output:
+            output.write(file)
+
+
+def table_of_file(name):
+    """No file is opened here: lines do not depend on where the generator runs."""
+    if re.fullmatch(r'(\./+)?' + re.escape(STORED_KERNEL), name):
+        return BULLETIN
+    if name not in KERNEL_FILES:
+        return desk.NO_TABLE
     try:
         return second.read_kernel(KERNEL_FILES[name])
     except Refused:
-        return table
+        return desk.NO_TABLE
+
+
+def table_behind(table, line):
+    """The table in force behind a line, or none."""
+    kernel = 'table kernel '
+    if line.startswith(kernel) and len(line) <= LIMIT:
+        return table_of_file(line[len(kernel):])
+    return desk.answer(table, line.encode('latin-1')).table if line.startswith(('table ', 'vouched ')) else table
 
 
 # ---------------------------------------------------------------------------
@@ -232,7 +256,7 @@ def random_long_line(dice):
 # Random lines
 
 class Lines:
-    """Random lines; it remembers the table that they have set."""
+    """Random lines; it remembers the table that they have set, or that they have lost."""
 
     WEIGHTS = ((20, 'between'), (20, 'show'), (12, 'after'), (20, 'add'), (18, 'pass'), (1, 'table'), (5, 'block'), (3, 'kernel'),
                (5, 'vouched'), (3, 'why'), (1, 'help'), (3, 'other'), (4, 'cut'), (3, 'damaged'), (1, 'long'))
@@ -241,28 +265,48 @@ class Lines:
         self.dice = Dice(seed)
         self.table = BULLETIN
 
+    @property
+    def about(self):
+        """The table about whose leap seconds the stamps lie."""
+        return edges_of(self.table)
+
     def next_line(self):
-        if self.table.used_months != BULLETIN.used_months and self.dice.chance(0.03):
-            self.table = BULLETIN
+        line = self.line_of_kind()
+        self.table = table_behind(self.table, line)
+        return line
+
+    def line_of_kind(self):
+        """Few lines without a table are good, so one is soon loaded."""
+        if not self.table.is_good and self.dice.chance(0.5):
+            return self.line_good_table()
+        if self.table.is_good and self.table.months != BULLETIN.months and self.dice.chance(0.03):
             return block_line(BULLETIN)
         return getattr(self, 'line_' + self.dice.weighted(self.WEIGHTS))()
 
+    def line_good_table(self):
+        if self.dice.chance(0.2):
+            return 'table kernel ' + self.good_kernel()
+        return block_line(self.dice.pick((BULLETIN, BULLETIN, T, N, TWO_DOWN, None, None)) or random_table(self.dice))
+
+    def good_kernel(self):
+        return self.dice.pick((STORED_KERNEL, './' + STORED_KERNEL))
+
     def line_between(self):
-        return 'between {} and {}'.format(*two_stamps(self.dice, self.table))
+        return 'between {} and {}'.format(*two_stamps(self.dice, self.about))
 
     def line_show(self):
         clocks = NO_CLOCKS if self.dice.chance(0.05) else CLOCKS
         clock = self.dice.pick(clocks)
-        return f'show {random_stamp(self.dice, self.table)} on {clock}'
+        return f'show {random_stamp(self.dice, self.about)} on {clock}'
 
     def line_after(self):
-        return 'after ' + random_stamp(self.dice, self.table)
+        return 'after ' + random_stamp(self.dice, self.about)
 
     def line_add(self):
-        return f'add {random_seconds(self.dice)} to {random_stamp(self.dice, self.table)}'
+        return f'add {random_seconds(self.dice)} to {random_stamp(self.dice, self.about)}'
 
     def line_pass(self):
-        return 'pass {} from {} to {}'.format(random_name(self.dice), *two_stamps(self.dice, self.table))
+        return 'pass {} from {} to {}'.format(random_name(self.dice), *two_stamps(self.dice, self.about))
 
     def line_table(self):
         return 'table'
@@ -275,29 +319,17 @@ class Lines:
             line = 'table block ' + random_block(self.dice, self.table).hex()
         else:
             line = block_line({'one step': self.dice.pick((T, N, TWO_DOWN)), 'bulletin': BULLETIN}.get(kind) or random_table(self.dice))
-        return self.setting('table block ' + line[12:].upper() if self.dice.chance(0.2) else line)
-
-    def setting(self, line):
-        """The line, once the table that it sets is remembered."""
-        self.table = desk.answer(self.table, line.encode('latin-1')).table
-        return line
+        return 'table block ' + line[12:].upper() if self.dice.chance(0.2) else line
 
     def line_kernel(self):
-        """No file is opened here: lines do not depend on where the generator runs."""
         if self.dice.chance(0.4):
-            name = self.dice.pick(NO_FILES)
-        elif self.dice.chance(0.4):
-            name = self.dice.pick(list(KERNEL_FILES))
-            self.table = table_of_file(name, self.table)
-        else:
-            name = self.dice.pick((STORED_KERNEL, './' + STORED_KERNEL))
-            self.table = BULLETIN
-        return 'table kernel ' + name
+            return 'table kernel ' + self.dice.pick(NO_FILES)
+        return 'table kernel ' + (self.dice.pick(list(KERNEL_FILES)) if self.dice.chance(0.4) else self.good_kernel())
 
     def line_vouched(self):
         if self.dice.chance(0.15):
             return 'vouched ' + self.dice.pick(NO_MONTHS)
-        return self.setting(vouched_line(min(max(0, random_vouched_number(self.dice, self.table) - 1), LAST_MONTH)))
+        return vouched_line(min(max(0, random_vouched_number(self.dice, self.about) - 1), LAST_MONTH))
 
     def line_why(self):
         return 'why ' + (self.dice.pick(NO_REFUSALS) if self.dice.chance(0.3) else str(self.dice.between(1, 14)))
@@ -605,6 +637,8 @@ BLOCKS = (
     'table block 03 0C 0C',
     'table block 0x030C0C',
     'table block 030C0C\r',
+    block_line(T),
+    'vouched 1973-01',
     'table block',
     'table  block 01',
     'table',
@@ -621,6 +655,7 @@ KERNELS = (
     'table kernel leapseconds.tls ',
     'table kernel leapseconds.tls/x',
     'table kernel no\tfile, "none"',
+    block_line(T),
     'table',
     'table kernel leapseconds.tls',
     'table kernel ./leapseconds.tls',
@@ -726,8 +761,78 @@ OTHER_LINES = (
 )
 
 
+# Here a line that loses the table has lines without one behind it.
+WITHOUT_TABLE = (
+    'vouched 2026-12',
+    'table block 030C0',
+    'pass AURORA-3 from UTC 2016-12-31T23:58:30 to UTC 2017-01-01T00:01:30',
+    'pass AURORA, 3 from UTC 2016-12-31T23:58:30 to UTC 2017-01-01T00:01:30',
+    'pass AURORA-3 from TAI 2016-12-31T23:58:30 to 2017-01-01T00:01:30',
+    'pass AURORA-3 from 2016-12-31T23:58:30 to UTC 2017-01-01T00:01:30',
+    'pass AURORA-3',
+    'between UTC 2016-12-31T23:58:30 and UTC 2017-01-01T00:01:30',
+    'between TAI 2000-01-01T12:00:00 and TAI 2000-01-01T12:00:00',
+    'between UTC x and x',
+    'between x and UTC 2017-01-01T00:01:30',
+    'between GPS',
+    'between ',
+    'show UTC 2016-12-31T23:59:60 on GPS',
+    'show TAI 2017-01-01T00:00:36 on TDT',
+    'show TDT 1972-01-01T00:00:00 on TAI',
+    'show UTC 2016-12-31T23:59:60 on gps',
+    'show UTC 2016-12-31 23:59:60\t on GPS',
+    'show utc 2016-12-31T23:59:60 on GPS',
+    'after UTC 1971-13-32T24:60:61',
+    'after UT1 2016-12-31T23:59:59',
+    'add 90.5 to UTC 2016-12-31T23:58:30',
+    'add 0 to GPS 2000-01-01T00:00:00',
+    'add 1e3 to UTC 2016-12-31T23:58:30',
+    'add 90.5 to 2016-12-31T23:58:30',
+    'table',
+    'vouched 2026-12',
+    'vouched 2026-13',
+    'vouched 1972-01',
+    'table',
+    'why 11',
+    'why 0',
+    'help',
+    '',
+    'hello',
+    to_size('table block 01', '', LIMIT + 1, '8'),
+    'table',
+    'table block 01',
+    'table',
+    'vouched 2026-12',
+    'after UTC 2016-12-31T23:59:59',
+    'table block 0x',
+    'table block 01 ',
+    'after UTC 2016-12-31T23:59:59',
+    'table kernel leapseconds.tls',
+    'after UTC 2026-12-31T23:59:59',
+    *(line for losing in ('table block ', 'table block 02', 'table block 8100', 'table block 0201', 'table block 41', 'table block 0100',
+                          'table block zz', 'table kernel no-such-file', 'table kernel ')
+      for line in (losing, 'after UTC 2016-12-31T23:59:59', block_line(BULLETIN))),
+    'table block',
+    'table kernel',
+    'after UTC 2016-12-31T23:59:59',
+)
+
+
+def with_table_again(lines):
+    """Behind each line that loses the table, Bulletin C's."""
+    table = BULLETIN
+    for line in lines:
+        table = table_behind(table, line)
+        yield line
+        if not table.is_good:
+            table = BULLETIN
+            yield block_line(BULLETIN)
+
+
 def stored_lines():
     """All ASCII and no NUL, so that tools for text take the file for one; random lines have the other bytes too."""
-    for section in (EXAMPLES, DIFFERENCES, SHOWN, NEXT_SECONDS, SUMS, PASSES, REFUSED_STAMPS, BLOCKS, KERNELS, VOUCHED, REASONS,
-                    OTHER_LINES):
-        yield from section
+    for section in (EXAMPLES, DIFFERENCES, SHOWN, NEXT_SECONDS, SUMS, PASSES, REFUSED_STAMPS, BLOCKS, KERNELS, VOUCHED):
+        yield from with_table_again(section)
+    yield from WITHOUT_TABLE
+    for section in (REASONS, OTHER_LINES):
+        yield from with_table_again(section)

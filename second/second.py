@@ -1,11 +1,12 @@
 #!/usr/bin/env python3
 """The second program of Mundreff: the same answers, found another way.
 
-It is written from the text of the scope ("What to build and its rules") and of
-the requests after it, and not from the Rattle code or its proofs, so that an
-error has to be made twice to pass unseen.  Python 3, standard library only.
-Each section below is a section of the scope or a request; after them come the
-programs, and the comparison of Bulletin C with the machine's own lists.
+It is written from the rules of docs/RULES.md, which say what Mundreff is to do
+with instants, clocks, leap tables, blocks, kernels, stamps and Julian dates, and
+not from the Rattle code or its proofs, so that an error has to be made twice to
+pass unseen.  Python 3, standard library only.  Each section below is a section
+of the rules or a part of one; after them come the programs, and the comparison
+of Bulletin C with the machine's own lists.
 
     second.py              answers the lines of the program `calls` (stdin to stdout)
     second.py ticks        prints the listing of the program `ticks`

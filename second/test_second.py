@@ -728,8 +728,65 @@ def test_tables_of_the_desk():
         expect_desk_refusal('table block ' + block, 8, block.replace('\r', '?'), sentence=desk.NO_HEX)
     for line in ('table block', 'table kernel', 'table ', 'table x', 'tables', 'Table'):
         expect_desk_refusal(line, 8, line)
-    assert desk_answers('table block 020d', 'vouched 1972-07', 'table block 0', 'table kernel .', 'vouched 1972-06',
-                        'after UTC 1972-07-31T23:59:59')[-1] == 'UTC 1972-08-01T00:00:00' + BEYOND
+
+
+def test_refused_tables_leave_none():
+    after = 'after UTC 1972-07-31T23:59:59'
+    for losing in ('0', 'zz', '01 ', '', '02', '8100', '0100', '0201', '41', '00'):
+        expect_desk_refusal(after, 11, after[6:], 'table block ' + losing)
+    with tempfile.TemporaryDirectory() as folder:
+        for number, file in enumerate((b'', H + G + b'(', H + G.replace(b'10', b'11'), (H + G).ljust(65_537))):
+            path = os.path.join(folder, str(number))
+            with open(path, 'wb') as output:
+                output.write(file)
+            expect_desk_refusal(after, 11, after[6:], 'table kernel ' + path)
+        for none in (folder, folder + '/none', '', folder + '/0/x', folder + '/\x00'):
+            expect_desk_refusal(after, 11, after[6:], 'table kernel ' + none)
+    for other in ('table block', 'table kernel', 'table x', 'Table block 0', 'vouched 1972-06', 'vouched 1972-6', 'vouched', 'hello',
+                  'why 0', 'after UTC x', 'after x', 'add x to y', 'show UTC 1972-01-01T00:00:00 on x', 'pass , from x to y',
+                  'x' * 1_025, 'table block ' + '0' * 1_013, 'table kernel ' + 'x' * 1_012):
+        expect_desk(after, 'UTC 1972-08-01T00:00:00' + BEYOND, 'table block 020d', 'vouched 1972-07', other)
+
+
+def test_lines_without_a_table():
+    def expect_none(line, number, given, sentence=None):
+        expect_desk_refusal(line, number, given, 'vouched 2026-12', 'table block 0', sentence=sentence)
+    first, last = NIGHT
+    for stamp in (first, 'TAI 2000-01-01T12:00:00', 'GPS x', 'UTC', 'TDT ', 'UTC 1971-13-32T24:60:61', 'GPS 2016-12-31T23:59:60'):
+        for line in (f'between {stamp} and {last}', f'between {stamp} and x', 'between ' + stamp, f'show {stamp} on TAI',
+                     f'show {stamp} on x', 'show ' + stamp, 'after ' + stamp, 'add 1 to ' + stamp, 'add 999999999999 to ' + stamp,
+                     f'pass X from {stamp} to {last}', f'pass X from {stamp} to x', 'pass X from ' + stamp):
+            expect_none(line, 11, stamp)
+    for stamp in ('', 'x', 'UTX 2016-12-31T23:59:60', 'utc 2016-12-31T23:59:59', first[4:]):
+        for line in (f'between {stamp} and {last}', f'show {stamp} on x', 'after ' + stamp, 'add 1 to ' + stamp,
+                     f'pass X from {stamp} to {last}'):
+            expect_none(line, 8, stamp)
+    expect_none('show UTC x on gps on TAI', 11, 'UTC x')
+    expect_none('after UTC \t', 11, 'UTC ?')
+    expect_none('add x to ' + first, 8, 'x', desk.NO_SECONDS)
+    expect_none(f'pass , from {first} to {last}', 8, ',', desk.NO_NAME)
+    expect_none('pass X', 8, '')
+    for month in ('2026-12', '1972-01', '9999-12'):
+        expect_none('vouched ' + month, 11, month)
+    expect_none('vouched 2026-13', 8, '2026-13', desk.NO_MONTH)
+    expect_none('why 0', 8, '0', desk.NO_REFUSAL)
+    expect_none('hello', 8, 'hello')
+    expect_none('table block 02', 9, '02 at byte 1')
+    expect_desk('table', '', 'table block 0')
+    assert desk_output(b'table block 0\ntable\n\n').endswith(b'0\n\n\n2 of 3 lines good - not good: 1\n')
+    for line in ('', 'help', 'why 11'):
+        assert desk_answers('table block 0', line)[1:] == desk_answers(line)
+
+
+def test_tables_behind_none():
+    lost = 'vouched 2026-12', 'table block 0', 'vouched 2026-12', 'after ' + NIGHT[0], 'table', 'hello', 'table kernel .'
+    expect_desk('table block 01', '1 entry, the last 1972-01-01 with 10 s, no month vouched for', *lost)
+    expect_desk(B_BLOCK, '28 entries, the last 2017-01-01 with 37 s, no month vouched for', *lost)
+    expect_desk('table kernel ' + KERNEL_FILE, '28 entries, the last 2017-01-01 with 37 s, no month vouched for', *lost)
+    expect_desk('after UTC 2016-12-31T23:59:59', 'UTC 2017-01-01T00:00:00', *lost, 'table block 01')
+    expect_desk('after UTC 2027-01-01T00:00:00', 'UTC 2027-01-01T00:00:01', *lost, B_BLOCK)
+    expect_desk('vouched 2026-12', '1 entry, the last 1972-01-01 with 10 s, vouched to December 2026', *lost, 'table block 01')
+    expect_desk_refusal('after ' + NIGHT[0], 11, NIGHT[0], *lost)
 
 
 def test_files_of_the_desk():
@@ -800,19 +857,40 @@ def test_words_behind_the_name_are_a_line():
     assert one_line('') == b'\n'
 
 
+def answered_beside_kernels(lines):
+    """Each line with the table that it meets and its answer, in a folder with the kernels that the lines name."""
+    here = os.getcwd()
+    with tempfile.TemporaryDirectory() as folder:
+        desk_lines.lay_out_kernels(folder)
+        os.chdir(folder)
+        try:
+            return list(desk.answered(line.encode('latin-1') for line in lines))
+        finally:
+            os.chdir(here)
+
+
 def test_inputs_of_desk_and_ticks():
-    """Each kind of answer is found; the lines are the same each time."""
+    """Each kind of answer is found, some without a table; about three quarters are good; the lines are the same each time."""
     stored = list(desk_lines.stored_lines())
     assert len(stored) > 200 and all(map(generate.is_plain, stored)) and 'table kernel leapseconds.tls' in stored
     for lines in (stored, list(desk_lines.random_lines(1, 24_000))):
         assert all('\n' not in line for line in lines)
-        found = '\n'.join(desk_answers(*lines))
+        answered = answered_beside_kernels(lines)
+        found = '\n'.join(given.text.decode('latin-1') for _, _, given in answered)
         assert set(re.findall('^refused ([0-9]+) ', found, re.MULTILINE)) == set(map(str, (*range(2, 13), 14)))
         for words in (desk.LONG_LINE, desk.NO_SECONDS, desk.NO_NAME, desk.NO_MONTH, desk.NO_REFUSAL, desk.NO_HEX, desk.NO_FILE):
             assert words.decode() in found, words
         for words in ('1 second added', '2 seconds added', '1 second taken out', '2 seconds taken out', 'no second added',
                       'different clocks', BEYOND):
             assert words in found, words
+        for line, table, given in answered:
+            behind = desk_lines.table_behind(table, line.decode('latin-1'))
+            assert second.block_of_table(behind) == second.block_of_table(given.table), line
+        without = [line for line, table, _ in answered if not table.is_good]
+        for words in (b'between ', b'show ', b'after ', b'add ', b'pass ', b'vouched ', b'table block ', b'table kernel ', b'why '):
+            assert any(line.startswith(words) for line in without), words
+        assert {b'', b'table', b'help'} <= set(without)
+    assert 0.7 < sum(given.is_good for _, _, given in answered) / len(answered) < 0.8 and 0.01 < len(without) / len(answered) < 0.1
     assert list(desk_lines.random_lines(7, 300)) == list(desk_lines.random_lines(7, 300)) != list(desk_lines.random_lines(8, 300))
     inputs = list(ticks_inputs.random_inputs(1, 2_000))
     assert inputs[:300] == list(ticks_inputs.random_inputs(1, 300))
