@@ -11,17 +11,17 @@ returns : tie.Need-returns
 returns c =
     let u = c .before .before in
     let e = u .before .before in
-    let s = e .before .before .before .before in
+    let s = e .before .before .before .before .before in
     let a = s .args in
-    loads-as (ap (loadedAs (a .t) (a .given .now) (a .read .table)) (sym (e .enum-told .given .1))) (u .take-up .ensures)
+    loads-as (ap (loadedAs (a .given .now) (a .read .table)) (sym (e .enum-told .given .1))) (u .take-up .ensures)
 
 returns-2 : tie.Need-returns-2
 returns-2 c =
     let r = c .before .before in
     let e = r .before .before .before in
-    let s = e .before .before .before .before in
+    let s = e .before .before .before .before .before in
     let a = s .args in
-    loads-as (ap (loadedAs (a .t) (a .given .now) (a .read .table)) (sym (e .answer .given .1))) (record { says = r .refuse-at .ensures; table = refl })
+    loads-as (ap (loadedAs (a .given .now) (a .read .table)) (sym (e .answer .given .1))) (record { says = r .refuse-at .ensures; table = refl })
 
 pub loaded-by-spec : {M : Type 1} → statement M
 loaded-by-spec =
