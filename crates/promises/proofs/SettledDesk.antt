@@ -144,8 +144,8 @@ settled-tablewords =
     record {
       put-entries = λ t out at k. put-alone;
       put-words = λ t out at k. put-alone;
-      load-block = λ t hex out at k. loads-alone;
-      load-kernel = λ t given readable file out at k. loads-alone;
+      load-block = λ hex out at k. loads-alone;
+      load-kernel = λ given readable file out at k. loads-alone;
       vouch = λ t month out at k. loads-alone;
     }
 

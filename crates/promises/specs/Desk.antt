@@ -4,13 +4,16 @@
 -- And what holds of the answer to every line, whatever it asks for.
 -- Assumes nothing.
 use mathlib.Core.Path.{_≡_}
+use mathlib.Core.Logic.{_⊎_}
 use mathlib.Core.Bool.{Bool, true, false, _||_}
 use mathlib.Core.List.{List, [], _∷_, _++_}
-use Prim.Native.Nat.{ℕ, _+_, _*_}
+use Prim.Native.Nat.{ℕ, _+_, _*_, _≤_}
 use lib.IntN.{ℤ, pos, _+ℤ_, _-ℤ_, _*ℤ_}
+use lib.ListN.{length}
 use lib.Signed.{_≤ℤ_, _<ℤ_}
 use Rattle.leap.specs.declared.Table.{Table}
 use Rattle.leap.specs.Leap.{accepted, offsetAt}
+use Rattle.leap.specs.Readers.{noTable}
 use Rattle.labels.specs.declared.Label.{Label}
 use Rattle.labels.specs.declared.Reading.{Reading}
 use Rattle.labels.specs.Labels.{monthOf}
@@ -20,6 +23,7 @@ use Rattle.clock.specs.Promise.{Shows}
 use Rattle.text.specs.declared.TextAnswer.the-variants.{Read}
 use Rattle.text.specs.Promise.{AcceptedAs}
 use Rattle.digits.specs.Bytes.{ascii}
+use Rattle.phrases.specs.Parts.{beginsWith}
 use Rattle.phrases.specs.Replies.{answering}
 use Rattle.seconds.specs.Seconds.{secondsText}
 use Rattle.stampwords.specs.declared.Steps.the-variants.{Count}
@@ -76,11 +80,22 @@ OnTheDesk = (t : Table) (a b : List ℕ) (x y : ℤ) (z w : Stamp) → ReadOnUtc
 
 -- ---- the answer to any line
 
+-- a line of up to 1,024 bytes that loads a table
+pub record Loading (line : List ℕ) : Type 0 where
+  pub short : length line ≤ 1024
+  pub loads : (beginsWith (ascii "table block ") line ≡ true) ⊎ (beginsWith (ascii "table kernel ") line ≡ true)
+
 -- `answered t readable file line` is the reply to a line under the table t, with the table from then on; `file` is what the file that the line names holds, if it can be read
 pub record DeskAnswers : Type 0 where
   -- every answer ends with a line feed (10)
   pub ends-its-line : (t : Table) (readable : Bool) (file line : List ℕ) → (text : List ℕ) × (answered t readable file line .reply .text ≡ text ++ (10 ∷ []))
-  -- an answer that is not good leaves the table as it was
-  pub keeps-the-table : (t : Table) (readable : Bool) (file line : List ℕ) → answered t readable file line .reply .good ≡ false → answered t readable file line .table ≡ t
-  -- where the table is accepted, so is the table from then on
-  pub stays-accepted : (t : Table) (readable : Bool) (file line : List ℕ) → accepted t ≡ true → accepted (answered t readable file line .table) ≡ true
+  -- an answer that is not good leaves the table as it was, or none: another than the two is never in force
+  pub keeps-or-loses : (t : Table) (readable : Bool) (file line : List ℕ) → answered t readable file line .reply .good ≡ false
+      → (answered t readable file line .table ≡ t) ⊎ (answered t readable file line .table ≡ noTable)
+  -- a line of a block or a kernel that is not good leaves none
+  pub loses-the-table : (t : Table) (readable : Bool) (file line : List ℕ) → Loading line → answered t readable file line .reply .good ≡ false → answered t readable file line .table ≡ noTable
+  -- where the table is accepted, so is the table from then on, if there is one
+  pub stays-accepted : (t : Table) (readable : Bool) (file line : List ℕ) → accepted t ≡ true
+      → (accepted (answered t readable file line .table) ≡ true) ⊎ (answered t readable file line .table ≡ noTable)
+  -- and no stamp is read without one
+  pub none-is-not-accepted : accepted noTable ≡ false

@@ -116,12 +116,12 @@ pub record SettledTablewords : Type 0 where
       Leaves tablewords-put-entries.Pre tablewords-put-entries.Post (t & out & at & tt) (λ after. t & out becomes after & at & tt) (putAt (now out) at (entriesText t))
   pub put-words : (t : Table) (out : Lent (List ℕ)) (at : ℕ) →
       Leaves tablewords-put-words.Pre tablewords-put-words.Post (t & out & at & tt) (λ after. t & out becomes after & at & tt) (putAt (now out) at (tableWords t))
-  pub load-block : (t : Table) (hex out : Lent (List ℕ)) (at : ℕ) →
-      Leaves tablewords-load-block.Pre tablewords-load-block.Post (t & hex & out & at & tt) (λ after. t & hex & out becomes after & at & tt)
-      (loadedAt (now out) at (loadBlock t (now hex)))
-  pub load-kernel : (t : Table) (given : Lent (List ℕ)) (readable : Bool) (file out : Lent (List ℕ)) (at : ℕ) →
-      Leaves tablewords-load-kernel.Pre tablewords-load-kernel.Post (t & given & readable & file & out & at & tt) (λ after. t & given & readable & file & out becomes after & at & tt)
-      (loadedAt (now out) at (loadKernel t (now given) readable (now file)))
+  pub load-block : (hex out : Lent (List ℕ)) (at : ℕ) →
+      Leaves tablewords-load-block.Pre tablewords-load-block.Post (hex & out & at & tt) (λ after. hex & out becomes after & at & tt)
+      (loadedAt (now out) at (loadBlock (now hex)))
+  pub load-kernel : (given : Lent (List ℕ)) (readable : Bool) (file out : Lent (List ℕ)) (at : ℕ) →
+      Leaves tablewords-load-kernel.Pre tablewords-load-kernel.Post (given & readable & file & out & at & tt) (λ after. given & readable & file & out becomes after & at & tt)
+      (loadedAt (now out) at (loadKernel (now given) readable (now file)))
   pub vouch : (t : Table) (month out : Lent (List ℕ)) (at : ℕ) →
       Leaves tablewords-vouch.Pre tablewords-vouch.Post (t & month & out & at & tt) (λ after. t & month & out becomes after & at & tt)
       (loadedAt (now out) at (vouchFor t (now month)))

@@ -51,9 +51,9 @@ placedRefusal why given place = record {
 
 abbrev pub loadedAs : List ℕ → Table → TableAnswer → Load
 loadedAs given new Read = taking new
-loadedAs given new (Refused why place) = staying new (placedRefusal why given place)
+loadedAs given new (Refused why place) = staying noTable (placedRefusal why given place)
 
--- the table is the one that was read, and all zero where none was: no line is answered by another than the one that was asked for
+-- where none was read there is none from now on: no line is answered by another table than the one that was asked for
 abbrev pub loadedBy : List ℕ → TableRead → Load
 loadedBy given read = loadedAs given (read .table) (read .answer)
 

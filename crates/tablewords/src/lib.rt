@@ -154,25 +154,27 @@ fn take_up(t: Table, out: &mut [u8], at: usize) -> Loaded
     }
 }
 
+fn no_table() -> Table
+    ensures { λ r. ⌜ r ≡ noTable ⌝ }
+{
+    leap::refused_at(Refusal::Table, 0).table
+}
+
 // Says the table that was read, or why none was.
 fn loaded_by(given: &[u8], read: TableRead, out: &mut [u8], at: usize) -> Loaded
     ensures { λ r. ⌜ Loads (now (out .entry)) at (loadedBy (now (given .entry)) read) r (now (out .exit)) ⌝ }
 {
     let answer = read.answer;
-    let table = read.table;
     match answer {
-        TableAnswer::Read => take_up(table, out, at),
-        TableAnswer::Refused(why, place) => Loaded {
-            said: refuse_at(out, at, why, given, place),
-            table,
-        },
+        TableAnswer::Read => take_up(read.table, out, at),
+        TableAnswer::Refused(why, place) => {
+            let table = no_table();
+            Loaded {
+                said: refuse_at(out, at, why, given, place),
+                table,
+            }
+        }
     }
-}
-
-fn no_table() -> Table
-    ensures { λ r. ⌜ r ≡ noTable ⌝ }
-{
-    leap::refused_at(Refusal::Table, 0).table
 }
 
 // Loads the table of a block in hex.
@@ -194,13 +196,7 @@ pub fn load_block(hex: &[u8], out: &mut [u8], at: usize) -> Loaded
 }
 
 // Loads the table of a kernel: `given` names the file, which can be read or not.
-pub fn load_kernel(
-    given: &[u8],
-    readable: bool,
-    file: &[u8],
-    out: &mut [u8],
-    at: usize,
-) -> Loaded
+pub fn load_kernel(given: &[u8], readable: bool, file: &[u8], out: &mut [u8], at: usize) -> Loaded
     ensures { λ r. ⌜ Loads (now (out .entry)) at (loadKernel (now (given .entry)) readable (now (file .entry))) r (now (out .exit)) ⌝ }
 {
     if readable {
