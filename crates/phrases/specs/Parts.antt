@@ -1,9 +1,9 @@
 -- The parts of a line, and what was given as it is shown.
 -- Assumes nothing.
 use Prim.Native.Nat.{ℕ, _+_}
-use mathlib.Core.Bool.{Bool, cond, _&&_}
+use mathlib.Core.Bool.{Bool, cond, not, _&&_}
 use mathlib.Core.List.{List, [], _∷_}
-use lib.Dec.{leb}
+use lib.Dec.{eqb, leb}
 use lib.ListN.{length, take, drop}
 use Rattle.digits.specs.Bytes.{sameBytes}
 
@@ -20,9 +20,13 @@ upTo word (b ∷ s) = cond (beginsWith word (b ∷ s)) [] (b ∷ upTo word s)
 unfoldable pub behind : List ℕ → List ℕ → List ℕ
 behind word s = drop (length (upTo word s) + length word) s
 
--- a byte as it is shown: `?` (63) for one that is not from 32 to 126
+-- a byte that a sheet keeps in its cell: from 32 to 126, and neither a double quote (34) nor a comma (44)
+abbrev pub plain : ℕ → Bool
+plain b = leb 32 b && (not (eqb b 34) && (not (eqb b 44) && leb b 126))
+
+-- as it is shown: `?` (63) for any other
 abbrev pub shownByte : ℕ → ℕ
-shownByte b = cond (leb 32 b && leb b 126) b 63
+shownByte b = cond (plain b) b 63
 
 unfoldable pub quoted : List ℕ → List ℕ
 quoted [] = []

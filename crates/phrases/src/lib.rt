@@ -20,11 +20,11 @@ pub struct Said {
 const NAMES: [u8; 84] =
     *b"-\nROOM\nSHAPE\nYEAR\nDATE\nCLOCK\nNOSECOND\nRANGE\nASK\nCUT\nGROUPS\nTABLE\nTAIL\nNUMBER\nKERNEL\n";
 
-const SENTENCES: [u8; 1297] =
-    *b"-\nThe result is longer than the buffer that was lent.\nA stamp looks like 1987-04-12T16:31:12 or 1987-102T16:31:12 or 1986 APR 12 16:31:09 and up to six digits may follow a point. Not read are a blank for the T; a Z at the end; a stamp without seconds; Dec for DEC.\nThe year is before 1972 or past 9999.\nThe month or the day is zero or too large.\nThe hour is over 23 or the minute over 59 or the second over 60; and TAI and TDT and GPS have no second 60.\nUTC has no such second under the table in force.\nWhat is asked for lies before 1972 or past 9999 on its clock.\nThis is no request or a stamp without its clock. The clocks are UTC and TAI and TDT and GPS.\nThe block ends too soon.\nA number of the block is not in its shortest form.\nThis is no leap table; or its last entry lies after the month that it is to be vouched for.\nThe block goes on behind its last entry.\nThis is no pair of a midnight and a fraction.\nThe file is no leap-seconds kernel or is longer than 65536 bytes.\nThe line has over 1024 bytes.\nA number of seconds looks like 90.5 or -3 with up to 12 digits and six behind the point.\nA name has no comma and no quote in it.\nA month looks like 2026-12 and is not before 1972-01.\nA refusal has a number from 1 to 14.\nA block is written as pairs of hex digits.\nThe file cannot be read.\n";
+const SENTENCES: [u8; 1379] =
+    *b"-\nThe result is longer than the buffer that was lent.\nA stamp looks like 1987-04-12T16:31:12 or 1987-102T16:31:12 or 1986 APR 12 16:31:09 and one to six digits may follow a point. Not read are a blank for the T; a Z or a blank or a carriage return at the end; a stamp without seconds; Dec for DEC.\nThe year is before 1972 or past 9999.\nThe month or the day is zero or too large.\nThe hour is over 23 or the minute over 59 or the second over 60; and TAI and TDT and GPS have no second 60.\nUTC has no such second under the table in force.\nWhat is asked for lies before 1972 or past 9999 on its clock.\nThis is no request or a stamp without its clock. The clocks are UTC and TAI and TDT and GPS; help lists the requests.\nThe block ends too soon.\nA number of the block is not in its shortest form.\nThe leap table is not right or none is loaded; or its last entry lies after the month that it is to be vouched for.\nThe block goes on behind its last entry.\nThis is no pair of a midnight and a fraction.\nThe file is no leap-seconds kernel or is longer than 65536 bytes.\nThe line has over 1024 bytes.\nA number of seconds looks like 90.5 or -3 with up to 12 digits and six behind the point.\nA name has no comma and no quote in it.\nA month looks like 2026-12 and is not before 1972-01.\nA refusal has a number from 1 to 14.\nA block is written as pairs of hex digits.\nThe file cannot be read.\n";
 
-const ADVICE: [u8; 649] =
-    *b"-\nLend a longer one. This program never gives it.\nWrite it so; behind its clock and one blank.\nCheck the year.\nCheck the date; February 29 is in leap years only.\nCheck the time and the clock in front of it.\nCheck the stamp; if it is right then load a newer table.\nAsk for another clock or a smaller step.\nPut the clock in front of each stamp; help lists the requests.\nCopy it again from its beginning to its end.\nAsk whoever sent the block for a new one.\nCheck the months and the offsets; or give a later month.\nCopy the block alone.\nGive a midnight that ends in .5 and a fraction below 1.\nLook at the byte that is named; or ask for the file again.\n";
+const ADVICE: [u8; 635] =
+    *b"-\nLend a longer one. This program never gives it.\nWrite it so; behind its clock and one blank.\nCheck the year.\nCheck the date; February 29 is in leap years only.\nCheck the time and the clock in front of it.\nCheck the stamp; if it is right then load a newer table.\nAsk for another clock or a smaller step.\nPut the clock in front of each stamp; help lists the requests.\nCopy it again from its beginning to its end.\nAsk whoever sent the block for a new one.\nLoad a right table; or give a later month.\nCopy the block alone.\nGive a midnight that ends in .5 and a fraction below 1.\nLook at the byte that is named; or ask for the file again.\n";
 
 const MONTHS: [u8; 88] =
     *b"-\nJanuary\nFebruary\nMarch\nApril\nMay\nJune\nJuly\nAugust\nSeptember\nOctober\nNovember\nDecember\n";
@@ -65,6 +65,12 @@ fn shown_byte(b: u8) -> u8
     ensures { λ r. ⌜ r ≡ shownByte b ⌝ }
 {
     if b < 32 {
+        return 63;
+    }
+    if b == 34 {
+        return 63;
+    }
+    if b == 44 {
         return 63;
     }
     if b <= 126 { b } else { 63 }
@@ -124,13 +130,13 @@ fn names() -> [u8; 84]
     NAMES
 }
 
-fn sentences() -> [u8; 1297]
+fn sentences() -> [u8; 1379]
     ensures { λ r. ⌜ r ≡ Texts·sentences ⌝ }
 {
     SENTENCES
 }
 
-fn advice() -> [u8; 649]
+fn advice() -> [u8; 635]
     ensures { λ r. ⌜ r ≡ Texts·advice ⌝ }
 {
     ADVICE

@@ -1,19 +1,26 @@
--- Both instants, by the ticks of the clock and by what the labels show; a difference of two; and what the desk answers of them.
+-- Both instants, by the ticks of the clock and by what the labels show; a difference of two; what the desk answers of them; and the answer to any line.
 -- Assumes nothing.
+use mathlib.Core.Logic.{_⊎_, inl, inr}
 use mathlib.Core.Path.{_≡_, refl, sym, ap, _∙_}
-use mathlib.Core.Bool.{true, false, _||_}
-use mathlib.Core.List.{List, _++_}
-use Prim.Native.Nat.{ℕ, _+_, _*_}
+use mathlib.Core.Bool.{Bool, true, false, _||_}
+use mathlib.Core.List.{List, [], _∷_, _++_}
+use Prim.Native.Nat.{ℕ, zero, suc, _+_, _*_, _<_}
 use native.Mathlib.Omega.{arith}
+use borrow.Author.Tests.{ltb-true, le-leb}
+use lib.Dec.{ltb, leb}
 use lib.IntN.{ℤ, pos, _+ℤ_, _-ℤ_, _*ℤ_}
 use lib.ListN.{length, drop}
 use lib.Signed.{ltZ, _≤ℤ_, _<ℤ_}
 use Rattle.laws.proofs.Branches.{cond-yes, cond-rest}
-use Rattle.laws.proofs.Cases.{by-test}
+use Rattle.laws.proofs.Cases.{by-test, pick}
 use Rattle.laws.proofs.Difference.{up, down, sum-is, diff-is, eq-to, eq-from, lt-to, le-to, ltZ-true, ltZ-false}
 use Rattle.laws.proofs.Machine.{times-is}
 use Rattle.leap.specs.declared.Table.{Table}
-use Rattle.leap.specs.Leap.{accepted, offsetAt}
+use Rattle.leap.specs.declared.TableAnswer.{TableAnswer}
+use Rattle.leap.specs.declared.TableAnswer.the-variants.{Read, Refused}
+use Rattle.leap.specs.declared.TableRead.{TableRead}
+use Rattle.leap.specs.Leap.{vouchedTo, accepted, offsetAt}
+use Rattle.leap.specs.Readers.{noTable, tableResults}
 use Rattle.labels.specs.declared.Reading.{Reading}
 use Rattle.labels.specs.Labels.{whole}
 use Rattle.labels.specs.Seconds.{microOf, axisOf}
@@ -28,16 +35,27 @@ use Rattle.clock.proofs.Promise.{all-tick}
 use Rattle.text.specs.Text.{readText, textResults}
 use Rattle.text.specs.Promise.{AcceptedAs, Names}
 use Rattle.text.proofs.Exactly.{read-exactly}
+use Rattle.block.specs.Reading.{readBlock}
+use Rattle.block.specs.Promise.{Bytes}
+use Rattle.block.proofs.Promise.{blocks}
+use Rattle.kernel.specs.Reading.{readKernel}
+use Rattle.kernel.proofs.Promise.{kernels}
 use Rattle.digits.specs.Bytes.{ascii}
+use Rattle.digits.specs.declared.Number.{Number}
+use Rattle.digits.specs.declared.Number.the-variants.{Is, Bad}
 use Rattle.lines.specs.Words.{before}
-use Rattle.phrases.specs.Replies.{answering}
+use Rattle.lines.specs.Pairs.{nibble, paired}
+use Rattle.phrases.specs.Parts.{beginsWith}
+use Rattle.phrases.specs.Replies.{Reply, answering}
 use Rattle.seconds.specs.Seconds.{secondsText}
 use Rattle.stampwords.specs.declared.Steps.the-variants.{Count}
 use Rattle.stampwords.specs.declared.SpanAnswer.the-variants.{Lasts}
 use Rattle.stampwords.specs.Stamps.{stampRead}
 use Rattle.stampwords.specs.Spans.{stepsBetween, stepsInOrder, stepsText, spanOf, betweenAnswer, betweenReply, realName, cell, sheetRow, passAnswer, passReply}
 use Rattle.stampwords.proofs.Spans.{span-of-two}
-use Rattle.promises.specs.Desk.{offsetOn, Elapsed, Between, ReadOnUtc, markOf, OnTheDesk}
+use Rattle.tablewords.specs.Loading.{Load, taking, staying, loadedAs, loadedBy, isHex, loadBlock, loadKernel, monthGiven, vouchedBy, vouch}
+use Rattle.wording.specs.Wording.{requested, judged, answered}
+use Rattle.promises.specs.Desk.{offsetOn, Elapsed, Between, ReadOnUtc, markOf, OnTheDesk, Loading, DeskAnswers}
 
 -- ---- one reading
 
@@ -146,4 +164,110 @@ on-the-desk t a b x y z w g h =
       pass = pass-answer t a b x y z w g h;
       steps = on t a b x y z w g h;
       steps-back = back t a b x y z w g h;
+    }
+
+-- ---- the answer to any line
+
+-- what a load does to the table t
+record Keeps (t : Table) (l : Load) : Type 0 where
+  as-it-was : l .reply .good ≡ false → (l .table ≡ t) ⊎ (l .table ≡ noTable)
+  fine : accepted t ≡ true → (accepted (l .table) ≡ true) ⊎ (l .table ≡ noTable)
+
+-- a load that leaves no table where it is not good
+record Replaces (l : Load) : Type 0 where
+  lost : l .reply .good ≡ false → l .table ≡ noTable
+  fine : (accepted (l .table) ≡ true) ⊎ (l .table ≡ noTable)
+
+stays : (t : Table) {r : Reply} → Keeps t (staying t r)
+stays t = record { as-it-was = λ e. inl refl; fine = λ h. inl h }
+
+takes : (u : Table) → accepted u ≡ true → Replaces (taking u)
+takes u h = record { lost = λ e. cc; fine = inl h }
+
+loses : {r : Reply} → Replaces (staying noTable r)
+loses = record { lost = λ e. refl; fine = inr refl }
+
+replaced : (t : Table) {l : Load} → Replaces l → Keeps t l
+replaced t p = record { as-it-was = λ e. inr (p .lost e); fine = λ h. p .fine }
+
+-- a table that is read is accepted
+loaded-replaces : (given : List ℕ) (r : TableRead) → (tableResults r ≡ (0, 0, r .table) → accepted (r .table) ≡ true) → Replaces (loadedBy given r)
+loaded-replaces given r h = go (r .answer) (λ e. h (ap (λ (a : TableAnswer). tableResults (record { answer = a; table = r .table })) e))
+  where
+    go : (a : TableAnswer) → (a ≡ Read → accepted (r .table) ≡ true) → Replaces (loadedAs given (r .table) a)
+    go Read k = takes (r .table) (k refl)
+    go (Refused why place) k = loses
+
+bytes-more : (x : ℕ) (s : List ℕ) → x < 256 → Bytes s → Bytes (x ∷ s)
+bytes-more x s h k zero = h
+bytes-more x s h k (suc i) = k i
+
+bytes-none : Bytes []
+bytes-none i = omega arith
+
+pairs-bytes : (s : List ℕ) → Bytes (paired s)
+unfolding paired
+pairs-bytes [] = bytes-none
+pairs-bytes (a ∷ []) = bytes-none
+pairs-bytes (a ∷ b ∷ s) =
+    let more = pairs-bytes s in
+    pick Bytes (ltb (nibble a) 16)
+    (λ e. pick Bytes (ltb (nibble b) 16) (λ f. bytes-more (nibble a * 16 + nibble b) (paired s) (omega (arith, ltb-true (nibble a) 16 e, ltb-true (nibble b) 16 f)) more) (λ f. bytes-none))
+    (λ e. bytes-none)
+
+block-replaces : (hex : List ℕ) → Replaces (loadBlock hex)
+unfolding loadBlock
+block-replaces hex =
+    let r = readBlock (paired hex) in
+    pick Replaces (isHex hex)
+    (λ e. loaded-replaces hex r (λ g. blocks .one-to-one .gives-the-table-of-the-block (paired hex) (r .table) .0 (pairs-bytes hex, g) .0 .is-accepted))
+    (λ e. loses)
+
+kernel-replaces : (given : List ℕ) (readable : Bool) (file : List ℕ) → Replaces (loadKernel given readable file)
+unfolding loadKernel
+kernel-replaces given readable file =
+    let r = readKernel file in
+    pick Replaces readable
+    (λ e. loaded-replaces given r (λ g. let w = kernels .reads file .gives-a-table (r .table) .0 g in let v = w .1 .1 .1 in ap accepted (sym (v .1)) ∙ v .0 .is-accepted))
+    (λ e. loses)
+
+vouch-keeps : (t : Table) (month : List ℕ) → Keeps t (vouch t month)
+unfolding vouch
+vouch-keeps t month = go (monthGiven month)
+  where
+    go : (n : Number) → Keeps t (vouchedBy t month n)
+    go (Is v) = pick (Keeps t) (accepted (vouchedTo v t)) (λ e. replaced t (takes (vouchedTo v t) e)) (λ e. stays t)
+    go Bad = stays t
+
+module _ (t : Table) (readable : Bool) (file line : List ℕ) where
+  requested-keeps : Keeps t (requested t readable file line)
+  unfolding requested
+  requested-keeps =
+      pick (Keeps t) (beginsWith (ascii "table block ") line) (λ e. replaced t (block-replaces (drop 12 line)))
+      (λ e. pick (Keeps t) (beginsWith (ascii "table kernel ") line) (λ f. replaced t (kernel-replaces (drop 13 line) readable file))
+      (λ f. pick (Keeps t) (beginsWith (ascii "vouched ") line) (λ g. vouch-keeps t (drop 8 line)) (λ g. stays t)))
+
+  judged-keeps : Keeps t (judged t readable file line)
+  unfolding judged
+  judged-keeps = pick (Keeps t) (leb (length line) 1024) (λ e. requested-keeps) (λ e. stays t)
+
+  requested-loses : (beginsWith (ascii "table block ") line ≡ true) ⊎ (beginsWith (ascii "table kernel ") line ≡ true) → Replaces (requested t readable file line)
+  unfolding requested
+  requested-loses (inl e) = rw e (block-replaces (drop 12 line))
+  requested-loses (inr f) =
+      pick Replaces (beginsWith (ascii "table block ") line) (λ e. block-replaces (drop 12 line)) (λ e. rw f (kernel-replaces (drop 13 line) readable file))
+
+  judged-loses : Loading line → judged t readable file line .reply .good ≡ false → judged t readable file line .table ≡ noTable
+  unfolding judged
+  judged-loses g = rw (le-leb (length line) 1024 (g .short)) (requested-loses (g .loads) .lost)
+
+pub desk-answers : DeskAnswers
+unfolding answered accepted
+desk-answers =
+    record {
+      ends-its-line = λ t readable file line. (judged t readable file line .reply .text, refl);
+      keeps-or-loses = λ t readable file line. judged-keeps t readable file line .as-it-was;
+      loses-the-table = λ t readable file line. judged-loses t readable file line;
+      stays-accepted = λ t readable file line. judged-keeps t readable file line .fine;
+      none-is-not-accepted = refl;
     }

@@ -5,13 +5,14 @@ use mathlib.Core.Bool.{Bool, true, false, cond}
 use mathlib.Core.List.{List, [], _∷_}
 use Prim.Native.Nat.{ℕ, _+_, _≤_}
 use native.Mathlib.Omega.{arith}
-use lib.Dec.{eqb}
+use lib.Dec.{eqb, leb}
 use lib.ListN.{length, drop}
 use Rattle.phrases.specs.declared.Said.{Said}
 use Rattle.phrases.specs.Puts.{Puts}
 use Rattle.phrases.specs.Parts.{beginsWith, upTo}
 use Rattle.phrases.specs.Replies.{Reply, Says}
 use Rattle.phrases.proofs.Puts.{puts}
+use Rattle.digits.specs.Bytes.{ascii}
 use Rattle.digits.specs.declared.Number.{Number}
 use Rattle.digits.specs.declared.Number.the-variants.{Is, Bad}
 use Rattle.digits.specs.Decimals.{decimalOf, Within}
@@ -21,10 +22,12 @@ use Rattle.seconds.proofs.Seconds.{small, short-ahead, short-back}
 use Rattle.leap.specs.declared.Table.{Table}
 use Rattle.tablewords.specs.declared.Loaded.{Loaded}
 use Rattle.tablewords.specs.Loading.{Load, Loads}
+use Rattle.wording.specs.declared.Part.{Part}
+use Rattle.wording.specs.Summary.{fileOf}
 use Rattle.laws.specs.Settles.{Settles}
 use Rattle.laws.proofs.Settles.{equal, following}
 use Rattle.laws.proofs.Cases.{pick}
-use Rattle.promises.specs.SettledDesk.{putAt, saidAt, loadedAt, SettledPhrases, SettledSeconds, SettledStampwords, SettledTablewords, SettledDesk}
+use Rattle.promises.specs.SettledDesk.{putAt, saidAt, loadedAt, SettledPhrases, SettledSeconds, SettledStampwords, SettledTablewords, SettledWording, SettledDesk}
 
 -- a text that is put
 put-alone : {l : List ℕ} {i : ℕ} {text : List ℕ} → Settles Unit (λ (a : ℕ × List ℕ). Puts l i text (a .0) (a .1)) (putAt l i text)
@@ -92,6 +95,17 @@ given-short (b ∷ s) =
     pick Short (eqb b 45) (λ e. short-back (microsGiven s) (few-micros s))
     (λ e. pick Short (eqb b 43) (λ f. short-ahead (microsGiven s) (few-micros s)) (λ f. short-ahead (microsGiven (b ∷ s)) (few-micros (b ∷ s))))
 
+-- a part lies within its line
+abbrev partIn : List ℕ → Part → Type 0
+partIn line r = (r .from ≤ r .end) × (r .end ≤ length line)
+
+file-inside : (line : List ℕ) → partIn line (fileOf line)
+unfolding fileOf
+file-inside line =
+    pick (partIn line) (leb (length line) 1024)
+    (λ e. pick (partIn line) (beginsWith (ascii "table kernel ") line) (λ f. (omega arith, omega arith)) (λ f. (omega arith, omega arith)))
+    (λ e. (omega arith, omega arith))
+
 settled-phrases : SettledPhrases
 settled-phrases =
     record {
@@ -130,9 +144,17 @@ settled-tablewords =
     record {
       put-entries = λ t out at k. put-alone;
       put-words = λ t out at k. put-alone;
-      load-block = λ t hex out at k. loads-alone;
-      load-kernel = λ t given readable file out at k. loads-alone;
+      load-block = λ hex out at k. loads-alone;
+      load-kernel = λ given readable file out at k. loads-alone;
       vouch = λ t month out at k. loads-alone;
+    }
+
+settled-wording : SettledWording
+settled-wording =
+    record {
+      answer = λ line t readable file out at k. loads-alone;
+      file-of = λ line k. following (partIn (line .now)) (file-inside (line .now));
+      summary = λ count bad first out at k. put-alone;
     }
 
 pub settled-desk : SettledDesk
@@ -142,4 +164,5 @@ settled-desk =
       seconds = settled-seconds;
       stampwords = settled-stampwords;
       tablewords = settled-tablewords;
+      wording = settled-wording;
     }

@@ -1,15 +1,19 @@
 -- What the desk's `between` answers: the time from one stamp on UTC to another is counted in seconds of UTC's clock, the added ones with the others.
 -- The desk reads both stamps with `read_text` and answers the difference of the two instants; here is what this difference is, by the clock of demand 3 and by the labels.
 -- `pass` answers the same in a row, and beside it by how many seconds a subtraction of the labels is wrong.
+-- And what holds of the answer to every line, whatever it asks for.
 -- Assumes nothing.
 use mathlib.Core.Path.{_≡_}
-use mathlib.Core.Bool.{true, _||_}
-use mathlib.Core.List.{List, _++_}
-use Prim.Native.Nat.{ℕ, _+_, _*_}
+use mathlib.Core.Logic.{_⊎_}
+use mathlib.Core.Bool.{Bool, true, false, _||_}
+use mathlib.Core.List.{List, [], _∷_, _++_}
+use Prim.Native.Nat.{ℕ, _+_, _*_, _≤_}
 use lib.IntN.{ℤ, pos, _+ℤ_, _-ℤ_, _*ℤ_}
+use lib.ListN.{length}
 use lib.Signed.{_≤ℤ_, _<ℤ_}
 use Rattle.leap.specs.declared.Table.{Table}
-use Rattle.leap.specs.Leap.{offsetAt}
+use Rattle.leap.specs.Leap.{accepted, offsetAt}
+use Rattle.leap.specs.Readers.{noTable}
 use Rattle.labels.specs.declared.Label.{Label}
 use Rattle.labels.specs.declared.Reading.{Reading}
 use Rattle.labels.specs.Labels.{monthOf}
@@ -19,11 +23,13 @@ use Rattle.clock.specs.Promise.{Shows}
 use Rattle.text.specs.declared.TextAnswer.the-variants.{Read}
 use Rattle.text.specs.Promise.{AcceptedAs}
 use Rattle.digits.specs.Bytes.{ascii}
+use Rattle.phrases.specs.Parts.{beginsWith}
 use Rattle.phrases.specs.Replies.{answering}
 use Rattle.seconds.specs.Seconds.{secondsText}
 use Rattle.stampwords.specs.declared.Steps.the-variants.{Count}
 use Rattle.stampwords.specs.Stamps.{clockOf, stampRead, beyondText}
 use Rattle.stampwords.specs.Spans.{stepsInOrder, stepsText, betweenReply, realName, cell, passReply}
+use Rattle.wording.specs.Wording.{answered}
 
 -- TAI-UTC under the table in the label's month, in seconds
 abbrev pub offsetOn : Table → Label → ℤ
@@ -71,3 +77,25 @@ pub record DeskBetween (t : Table) (a b : List ℕ) (x y : ℤ) (z w : Stamp) : 
 -- for every table and any two stamps on UTC that are read, in either order
 abbrev pub OnTheDesk : Type 0
 OnTheDesk = (t : Table) (a b : List ℕ) (x y : ℤ) (z w : Stamp) → ReadOnUtc t a x z → ReadOnUtc t b y w → DeskBetween t a b x y z w
+
+-- ---- the answer to any line
+
+-- a line of up to 1,024 bytes that loads a table
+pub record Loading (line : List ℕ) : Type 0 where
+  pub short : length line ≤ 1024
+  pub loads : (beginsWith (ascii "table block ") line ≡ true) ⊎ (beginsWith (ascii "table kernel ") line ≡ true)
+
+-- `answered t readable file line` is the reply to a line under the table t, with the table from then on; `file` is what the file that the line names holds, if it can be read
+pub record DeskAnswers : Type 0 where
+  -- every answer ends with a line feed (10)
+  pub ends-its-line : (t : Table) (readable : Bool) (file line : List ℕ) → (text : List ℕ) × (answered t readable file line .reply .text ≡ text ++ (10 ∷ []))
+  -- an answer that is not good leaves the table as it was, or none: another than the two is never in force
+  pub keeps-or-loses : (t : Table) (readable : Bool) (file line : List ℕ) → answered t readable file line .reply .good ≡ false
+      → (answered t readable file line .table ≡ t) ⊎ (answered t readable file line .table ≡ noTable)
+  -- a line of a block or a kernel that is not good leaves none
+  pub loses-the-table : (t : Table) (readable : Bool) (file line : List ℕ) → Loading line → answered t readable file line .reply .good ≡ false → answered t readable file line .table ≡ noTable
+  -- where the table is accepted, so is the table from then on, if there is one
+  pub stays-accepted : (t : Table) (readable : Bool) (file line : List ℕ) → accepted t ≡ true
+      → (accepted (answered t readable file line .table) ≡ true) ⊎ (answered t readable file line .table ≡ noTable)
+  -- and no stamp is read without one
+  pub none-is-not-accepted : accepted noTable ≡ false

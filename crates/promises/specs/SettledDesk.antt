@@ -1,4 +1,4 @@
--- What a desk's answers are made of, each function settled by its own contract: texts put one behind another, the parts of a line, the refusals in words, and the answers about stamps and tables.
+-- What a desk's answers are made of, each function settled by its own contract: texts put one behind another, the parts of a line, the refusals in words, the answers about stamps and tables, and the answer to a line.
 -- `putEnd` is where the next text goes, and `putInto` the buffer afterwards, as much of the text in it as it holds.
 -- Assumes nothing.
 use mathlib.Core.Bool.{Bool}
@@ -22,6 +22,8 @@ use Rattle.stampwords.specs.Moves.{showReply, afterReply, addReply}
 use Rattle.tablewords.specs.declared.Loaded.{Loaded}
 use Rattle.tablewords.specs.Words.{entriesText, tableWords}
 use Rattle.tablewords.specs.Loading.{Load, loadBlock, loadKernel, vouch as vouchFor}
+use Rattle.wording.specs.Wording.{answered}
+use Rattle.wording.specs.Summary.{summaryText, fileOf}
 use Rattle.laws.specs.Settles.{_&_, Lent, _becomes_, Returns, Leaves}
 use Rattle.phrases.proofs.put.Reads as phrases-put
 use Rattle.phrases.proofs.put_unsigned.Reads as phrases-put-unsigned
@@ -46,6 +48,9 @@ use Rattle.tablewords.proofs.put_words.Reads as tablewords-put-words
 use Rattle.tablewords.proofs.load_block.Reads as tablewords-load-block
 use Rattle.tablewords.proofs.load_kernel.Reads as tablewords-load-kernel
 use Rattle.tablewords.proofs.vouch.Reads as tablewords-vouch
+use Rattle.wording.proofs.answer.Reads as wording-answer
+use Rattle.wording.proofs.file_of.Reads as wording-file-of
+use Rattle.wording.proofs.summary.Reads as wording-summary
 
 -- a text put at a place of a buffer: where the next one goes, and the buffer
 abbrev pub putAt : List ℕ → ℕ → List ℕ → ℕ × List ℕ
@@ -111,18 +116,29 @@ pub record SettledTablewords : Type 0 where
       Leaves tablewords-put-entries.Pre tablewords-put-entries.Post (t & out & at & tt) (λ after. t & out becomes after & at & tt) (putAt (now out) at (entriesText t))
   pub put-words : (t : Table) (out : Lent (List ℕ)) (at : ℕ) →
       Leaves tablewords-put-words.Pre tablewords-put-words.Post (t & out & at & tt) (λ after. t & out becomes after & at & tt) (putAt (now out) at (tableWords t))
-  pub load-block : (t : Table) (hex out : Lent (List ℕ)) (at : ℕ) →
-      Leaves tablewords-load-block.Pre tablewords-load-block.Post (t & hex & out & at & tt) (λ after. t & hex & out becomes after & at & tt)
-      (loadedAt (now out) at (loadBlock t (now hex)))
-  pub load-kernel : (t : Table) (given : Lent (List ℕ)) (readable : Bool) (file out : Lent (List ℕ)) (at : ℕ) →
-      Leaves tablewords-load-kernel.Pre tablewords-load-kernel.Post (t & given & readable & file & out & at & tt) (λ after. t & given & readable & file & out becomes after & at & tt)
-      (loadedAt (now out) at (loadKernel t (now given) readable (now file)))
+  pub load-block : (hex out : Lent (List ℕ)) (at : ℕ) →
+      Leaves tablewords-load-block.Pre tablewords-load-block.Post (hex & out & at & tt) (λ after. hex & out becomes after & at & tt)
+      (loadedAt (now out) at (loadBlock (now hex)))
+  pub load-kernel : (given : Lent (List ℕ)) (readable : Bool) (file out : Lent (List ℕ)) (at : ℕ) →
+      Leaves tablewords-load-kernel.Pre tablewords-load-kernel.Post (given & readable & file & out & at & tt) (λ after. given & readable & file & out becomes after & at & tt)
+      (loadedAt (now out) at (loadKernel (now given) readable (now file)))
   pub vouch : (t : Table) (month out : Lent (List ℕ)) (at : ℕ) →
       Leaves tablewords-vouch.Pre tablewords-vouch.Post (t & month & out & at & tt) (λ after. t & month & out becomes after & at & tt)
       (loadedAt (now out) at (vouchFor t (now month)))
+
+-- the answer to a line with the table from then on, the part of a line that names a file, and the last line
+pub record SettledWording : Type 0 where
+  pub answer : (line : Lent (List ℕ)) (t : Table) (readable : Bool) (file out : Lent (List ℕ)) (at : ℕ) →
+      Leaves wording-answer.Pre wording-answer.Post (line & t & readable & file & out & at & tt) (λ after. line & t & readable & file & out becomes after & at & tt)
+      (loadedAt (now out) at (answered t readable (now file) (now line)))
+  pub file-of : (line : Lent (List ℕ)) → Returns wording-file-of.Pre wording-file-of.Post (line & tt) (fileOf (now line))
+  pub summary : (count bad : ℕ) (first out : Lent (List ℕ)) (at : ℕ) →
+      Leaves wording-summary.Pre wording-summary.Post (count & bad & first & out & at & tt) (λ after. count & bad & first & out becomes after & at & tt)
+      (putAt (now out) at (summaryText count bad (now first)))
 
 pub record SettledDesk : Type 0 where
   pub phrases : SettledPhrases
   pub seconds : SettledSeconds
   pub stampwords : SettledStampwords
   pub tablewords : SettledTablewords
+  pub wording : SettledWording

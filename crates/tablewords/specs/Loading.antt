@@ -1,4 +1,4 @@
--- What loading a leap table and vouching for it answers, and the table afterwards: after a refusal it is the one before.
+-- What loading a leap table and vouching for it answers, and the table afterwards: none, all zero, where loading is refused.
 -- Assumes nothing.
 use Prim.Native.Nat.{ℕ, _+_, _-_, _*_, _/_}
 use mathlib.Core.Path.{_≡_}
@@ -19,6 +19,7 @@ use Rattle.leap.specs.declared.TableAnswer.{TableAnswer}
 use Rattle.leap.specs.declared.TableAnswer.the-variants.{Read, Refused}
 use Rattle.leap.specs.declared.TableRead.{TableRead}
 use Rattle.leap.specs.Leap.{vouchedTo, accepted}
+use Rattle.leap.specs.Readers.{noTable}
 use Rattle.block.specs.Reading.{readBlock}
 use Rattle.kernel.specs.Reading.{readKernel}
 use Rattle.phrases.specs.Texts.{refusalText}
@@ -35,7 +36,7 @@ pub record Load : Type 0 where
 abbrev pub taking : Table → Load
 taking t = record { reply = answering (tableWords t); table = t }
 
--- the table stays as it was
+-- this table from now on, whatever is said
 abbrev pub staying : Table → Reply → Load
 staying t r = record { reply = r; table = t }
 
@@ -48,24 +49,24 @@ placedRefusal why given place = record {
   good = false;
 }
 
-abbrev pub loadedAs : Table → List ℕ → Table → TableAnswer → Load
-loadedAs t given new Read = taking new
-loadedAs t given new (Refused why place) = staying t (placedRefusal why given place)
+abbrev pub loadedAs : List ℕ → Table → TableAnswer → Load
+loadedAs given new Read = taking new
+loadedAs given new (Refused why place) = staying noTable (placedRefusal why given place)
 
-abbrev pub loadedBy : Table → List ℕ → TableRead → Load
-loadedBy t given read = loadedAs t given (read .table) (read .answer)
+-- where none was read there is none from now on: no line is answered by another table than the one that was asked for
+abbrev pub loadedBy : List ℕ → TableRead → Load
+loadedBy given read = loadedAs given (read .table) (read .answer)
 
 -- pairs of hex digits alone, 512 of them at most: a line has no more
 unfoldable pub isHex : List ℕ → Bool
 isHex s = leb (length s / 2) 512 && allPairs s
 
-unfoldable pub loadBlock : Table → List ℕ → Load
-loadBlock t hex = cond (isHex hex) (loadedBy t hex (readBlock (paired hex))) (staying t (refusingAs 8 20 hex))
+unfoldable pub loadBlock : List ℕ → Load
+loadBlock hex = cond (isHex hex) (loadedBy hex (readBlock (paired hex))) (staying noTable (refusingAs 8 20 hex))
 
 -- a file of this name, which can be read or not
-unfoldable pub loadKernel : Table → List ℕ → Bool → List ℕ → Load
-loadKernel t given readable file =
-    cond readable (loadedBy t given (readKernel file)) (staying t (refusingAs 14 21 given))
+unfoldable pub loadKernel : List ℕ → Bool → List ℕ → Load
+loadKernel given readable file = cond readable (loadedBy given (readKernel file)) (staying noTable (refusingAs 14 21 given))
 
 -- ---- the month that it is vouched for
 

@@ -6,6 +6,7 @@ ghost use Rattle.leap.specs.Leap.{top};
 ghost use Rattle.digits.specs.Decimals.{Within};
 ghost use Rattle.phrases.specs.Puts.{Puts};
 ghost use Rattle.phrases.specs.Replies.{Says};
+ghost use Rattle.leap.specs.Readers.{noTable};
 ghost use Rattle.tablewords.specs.Words.{dateText, offsetText, feed, entriesText, countText, vouchedWords, tableWords};
 ghost use Rattle.tablewords.specs.Loading.{taking, placedRefusal, loadedBy, loadBlock, loadKernel, monthNumber, monthGiven, vouch, Loads};
 use answer::Refusal;
@@ -153,54 +154,58 @@ fn take_up(t: Table, out: &mut [u8], at: usize) -> Loaded
     }
 }
 
+fn no_table() -> Table
+    ensures { λ r. ⌜ r ≡ noTable ⌝ }
+{
+    leap::refused_at(Refusal::Table, 0).table
+}
+
 // Says the table that was read, or why none was.
-fn loaded_by(t: Table, given: &[u8], read: TableRead, out: &mut [u8], at: usize) -> Loaded
-    ensures { λ r. ⌜ Loads (now (out .entry)) at (loadedBy t (now (given .entry)) read) r (now (out .exit)) ⌝ }
+fn loaded_by(given: &[u8], read: TableRead, out: &mut [u8], at: usize) -> Loaded
+    ensures { λ r. ⌜ Loads (now (out .entry)) at (loadedBy (now (given .entry)) read) r (now (out .exit)) ⌝ }
 {
     let answer = read.answer;
     match answer {
         TableAnswer::Read => take_up(read.table, out, at),
-        TableAnswer::Refused(why, place) => Loaded {
-            said: refuse_at(out, at, why, given, place),
-            table: t,
-        },
+        TableAnswer::Refused(why, place) => {
+            let table = no_table();
+            Loaded {
+                said: refuse_at(out, at, why, given, place),
+                table,
+            }
+        }
     }
 }
 
 // Loads the table of a block in hex.
-pub fn load_block(t: Table, hex: &[u8], out: &mut [u8], at: usize) -> Loaded
-    ensures { λ r. ⌜ Loads (now (out .entry)) at (loadBlock t (now (hex .entry))) r (now (out .exit)) ⌝ }
+pub fn load_block(hex: &[u8], out: &mut [u8], at: usize) -> Loaded
+    ensures { λ r. ⌜ Loads (now (out .entry)) at (loadBlock (now (hex .entry))) r (now (out .exit)) ⌝ }
 {
     let mut bytes = [0u8; 512];
     let h = lines::hex(hex, &mut bytes);
     let Number::Is(n) = h else {
+        let table = no_table();
         return Loaded {
             said: phrases::refuse_as(out, at, 8, 20, hex),
-            table: t,
+            table,
         };
     };
     let k = lines::front(&bytes, n as usize);
     let read = block::read_block(&bytes[..k]);
-    loaded_by(t, hex, read, out, at)
+    loaded_by(hex, read, out, at)
 }
 
 // Loads the table of a kernel: `given` names the file, which can be read or not.
-pub fn load_kernel(
-    t: Table,
-    given: &[u8],
-    readable: bool,
-    file: &[u8],
-    out: &mut [u8],
-    at: usize,
-) -> Loaded
-    ensures { λ r. ⌜ Loads (now (out .entry)) at (loadKernel t (now (given .entry)) readable (now (file .entry))) r (now (out .exit)) ⌝ }
+pub fn load_kernel(given: &[u8], readable: bool, file: &[u8], out: &mut [u8], at: usize) -> Loaded
+    ensures { λ r. ⌜ Loads (now (out .entry)) at (loadKernel (now (given .entry)) readable (now (file .entry))) r (now (out .exit)) ⌝ }
 {
     if readable {
-        return loaded_by(t, given, kernel::read_kernel(file), out, at);
+        return loaded_by(given, kernel::read_kernel(file), out, at);
     }
+    let table = no_table();
     Loaded {
         said: phrases::refuse_as(out, at, 14, 21, given),
-        table: t,
+        table,
     }
 }
 

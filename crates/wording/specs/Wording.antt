@@ -66,8 +66,8 @@ replyTo t line Unknown = refusal ASK line
 -- `file` is what the file that a kernel's line names holds, if it can be read
 unfoldable pub requested : Table → Bool → List ℕ → List ℕ → Load
 requested t readable file line =
-    cond (beginsWith (ascii "table block ") line) (loadBlock t (drop 12 line))
-    (cond (beginsWith (ascii "table kernel ") line) (loadKernel t (drop 13 line) readable file)
+    cond (beginsWith (ascii "table block ") line) (loadBlock (drop 12 line))
+    (cond (beginsWith (ascii "table kernel ") line) (loadKernel (drop 13 line) readable file)
     (cond (beginsWith (ascii "vouched ") line) (vouch t (drop 8 line))
     (staying t (replyTo t line (requestOf line)))))
 

@@ -182,11 +182,11 @@ fn asked(line: &[u8], t: Table, readable: bool, file: &[u8], out: &mut [u8], at:
 {
     if phrases::begins_with(line, b"table block ") {
         let from = lines::front(line, 12);
-        return tablewords::load_block(t, &line[from..], out, at);
+        return tablewords::load_block(&line[from..], out, at);
     }
     if phrases::begins_with(line, b"table kernel ") {
         let from = lines::front(line, 13);
-        return tablewords::load_kernel(t, &line[from..], readable, file, out, at);
+        return tablewords::load_kernel(&line[from..], readable, file, out, at);
     }
     if phrases::begins_with(line, b"vouched ") {
         let from = lines::front(line, 8);

@@ -17,10 +17,11 @@ returns : tie.Need-returns
 unfolding loadBlock
 returns c =
     let r = c .before .before in
-    let e = r .before .before in
+    let n = r .before .before in
+    let e = n .before in
     let h = e .before .before .before in
     let s = h .before .before .before .before in
-    loads-as (cond-rest _ (hex-none (s .args .hex .now) (sym (h .hex .ensures .0) ∙ e .enum-told .given .1)) refl) (record { says = r .refuse-as .ensures; table = refl })
+    loads-as (cond-rest _ (hex-none (s .args .hex .now) (sym (h .hex .ensures .0) ∙ e .enum-told .given .1)) refl) (record { says = r .refuse-as .ensures; table = n .no-table .ensures })
 
 returns-2 : tie.Need-returns-2
 unfolding loadBlock
@@ -36,7 +37,7 @@ returns-2 c =
     let few = paired-few x in
     let n : f .front .result ≡ length (paired x) = f .front .ensures .1 ∙ omega (arith, g .number, g .room) in
     let v : take (f .front .result) (h .hex .last .1 .0) ≡ paired x = rw (n, h .hex .ensures .1) (into-front _ x (g .room) (g .pairs)) in
-    loads-as (cond-yes _ (g .hex) (ap (loadedBy (s .args .t) x) (b .read-block .ensures ∙ ap readBlock v))) (l .loaded-by .ensures)
+    loads-as (cond-yes _ (g .hex) (ap (loadedBy x) (b .read-block .ensures ∙ ap readBlock v))) (l .loaded-by .ensures)
 
 pub load-block-spec : {M : Type 1} → statement M
 load-block-spec =
@@ -46,6 +47,7 @@ load-block-spec =
     (λ c κs. search needs)
     (λ c. search needs)
     (λ c. search needs)
+    (λ c κs. search needs)
     (λ c κs. search needs)
     (λ c. search needs)
     returns

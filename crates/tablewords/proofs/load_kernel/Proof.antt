@@ -15,14 +15,14 @@ returns c =
     let k = l .before .before in
     let y = k .before in
     let s = y .before .before .before .before in
-    loads-as (cond-yes _ (y .if1 .taken) (ap (loadedBy (s .args .t) (s .args .given .now)) (k .read-kernel .ensures))) (l .loaded-by .ensures)
+    loads-as (cond-yes _ (y .if1 .taken) (ap (loadedBy (s .args .given .now)) (k .read-kernel .ensures))) (l .loaded-by .ensures)
 
 returns-2 : tie.Need-returns-2
 unfolding loadKernel
 returns-2 c =
     let r = c .before .before in
     let n = r .before .before in
-    loads-as (cond-rest _ (n .if1 .left) refl) (record { says = r .refuse-as .ensures; table = refl })
+    loads-as (cond-rest _ (n .before .if1 .left) refl) (record { says = r .refuse-as .ensures; table = n .no-table .ensures })
 
 pub load-kernel-spec : {M : Type 1} → statement M
 load-kernel-spec =
@@ -32,6 +32,7 @@ load-kernel-spec =
     (λ c κs. search needs)
     (λ c. search needs)
     returns
+    (λ c κs. search needs)
     (λ c κs. search needs)
     (λ c. search needs)
     returns-2)

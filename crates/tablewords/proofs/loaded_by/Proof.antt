@@ -13,15 +13,16 @@ returns c =
     let e = u .before .before in
     let s = e .before .before .before .before in
     let a = s .args in
-    loads-as (ap (loadedAs (a .t) (a .given .now) (a .read .table)) (sym (e .enum-told .given .1))) (u .take-up .ensures)
+    loads-as (ap (loadedAs (a .given .now) (a .read .table)) (sym (e .enum-told .given .1))) (u .take-up .ensures)
 
 returns-2 : tie.Need-returns-2
 returns-2 c =
     let r = c .before .before in
-    let e = r .before .before .before in
+    let n = r .before .before in
+    let e = n .before .before in
     let s = e .before .before .before .before in
     let a = s .args in
-    loads-as (ap (loadedAs (a .t) (a .given .now) (a .read .table)) (sym (e .answer .given .1))) (record { says = r .refuse-at .ensures; table = refl })
+    loads-as (ap (loadedAs (a .given .now) (a .read .table)) (sym (e .answer .given .1))) (record { says = r .refuse-at .ensures; table = n .no-table .ensures })
 
 pub loaded-by-spec : {M : Type 1} → statement M
 loaded-by-spec =
@@ -30,6 +31,7 @@ loaded-by-spec =
     (λ c. search needs)
     (λ c κs. search needs)
     (λ c. search needs)
+    (λ c κs. search needs)
     (λ c κs. search needs)
     (λ c. search needs)
     returns

@@ -16,13 +16,13 @@ returns : tie.Need-returns
 unfolding requested
 returns c =
     let a = c .before .before .before .before .before .before .before .before .before .before .before .before .args in
-    loads-as (cond-yes _ (sym (c .before .before .before .before .before .before .before .begins-with .ensures) ∙ c .before .before .before .before .before .before .if1 .taken) (ap (loadBlock (a .t)) (tail-is 12 (a .line .now) (c .before .before .before .before .before .front .result) (c .before .before .before .before .before .front .ensures .1)))) (c .before .before .load-block .ensures)
+    loads-as (cond-yes _ (sym (c .before .before .before .before .before .before .before .begins-with .ensures) ∙ c .before .before .before .before .before .before .if1 .taken) (ap loadBlock (tail-is 12 (a .line .now) (c .before .before .before .before .before .front .result) (c .before .before .before .before .before .front .ensures .1)))) (c .before .before .load-block .ensures)
 
 returns-2 : tie.Need-returns-2
 unfolding requested
 returns-2 c =
     let a = c .before .before .before .before .before .before .before .before .before .before .before .before .before .before .before .args in
-    loads-as (cond-rest _ (sym (c .before .before .before .before .before .before .before .before .before .before .begins-with .ensures) ∙ c .before .before .before .before .before .before .before .before .before .if1 .left) (cond-yes _ (sym (c .before .before .before .before .before .before .before .begins-with2 .ensures) ∙ c .before .before .before .before .before .before .if2 .taken) (ap (λ (s : List ℕ). loadKernel (a .t) s (a .readable) (a .file .now)) (tail-is 13 (a .line .now) (c .before .before .before .before .before .front2 .result) (c .before .before .before .before .before .front2 .ensures .1))))) (c .before .before .load-kernel .ensures)
+    loads-as (cond-rest _ (sym (c .before .before .before .before .before .before .before .before .before .before .begins-with .ensures) ∙ c .before .before .before .before .before .before .before .before .before .if1 .left) (cond-yes _ (sym (c .before .before .before .before .before .before .before .begins-with2 .ensures) ∙ c .before .before .before .before .before .before .if2 .taken) (ap (λ (s : List ℕ). loadKernel s (a .readable) (a .file .now)) (tail-is 13 (a .line .now) (c .before .before .before .before .before .front2 .result) (c .before .before .before .before .before .front2 .ensures .1))))) (c .before .before .load-kernel .ensures)
 
 returns-3 : tie.Need-returns-3
 unfolding requested
