@@ -596,7 +596,9 @@ def refused(number, given, sentence=None):
 
 
 def expect_desk_refusal(line, number, given, *before, sentence=None):
-    expect_desk(line, refused(number, given, sentence and sentence.decode()), *before)
+    """In a sheet a comma would end the cell, and a quote open one."""
+    shown = given.replace(',', '?').replace('"', '?')
+    expect_desk(line, refused(number, shown, sentence and sentence.decode()), *before)
 
 
 def test_examples_of_the_desk():
