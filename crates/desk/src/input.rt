@@ -33,7 +33,7 @@ fn room(out: &[u8], s: State) -> State {
     flush(out, s)
 }
 
-// One that fills its buffer is answered as it stands there: it is longer than a line may be.
+// A line that fills its buffer is answered as it stands there: it is longer than a line may be.
 fn answer_line(line: &[u8], state: State, out: &mut [u8]) -> State {
     let n = lines::front(line, state.len);
     let s = room(out, state);

@@ -9,11 +9,11 @@ use native.Mathlib.Numerals.{add-one}
 use borrow.Author.Tests.{eq-eqb}
 use lib.Dec.{eqb}
 use lib.ListN.{length, take, drop, getD, length-drop, drop-of-length-le}
-use lib.Seq.{drop-cons, take-suc, take-all}
+use lib.Seq.{drop-cons, drop-length, take-suc, take-all}
 use Rattle.laws.proofs.Placed.{take-min}
 use Rattle.digits.specs.Bytes.{sameBytes}
 use Rattle.digits.proofs.Bytes.{same-true}
-use Rattle.phrases.specs.Parts.{beginsWith, upTo, shownByte, quoted}
+use Rattle.phrases.specs.Parts.{beginsWith, upTo, behind, shownByte, quoted}
 
 -- ---- the same bytes
 
@@ -29,6 +29,9 @@ same-is false a b f g = go (sameBytes a b) refl
     go : (t : Bool) → sameBytes a b ≡ t → false ≡ sameBytes a b
     go true e = let z : false ≡ true = g (same-true a b e) in cc
     go false e = sym e
+
+pub same-told : (s w : List ℕ) {r b : Bool} → ((r ≡ true → s ≡ w) × (s ≡ w → r ≡ true)) → r ≡ b → sameBytes s w ≡ b
+same-told s w {r} e q = sym (same-is r s w (e .0) (e .1)) ∙ q
 
 pub begins-is : (r : Bool) (word s : List ℕ) {k : ℕ} → k ≡ min (length word) (length s) → (r ≡ true → take k s ≡ word) → (take k s ≡ word → r ≡ true) → r ≡ beginsWith word s
 unfolding beginsWith
@@ -55,6 +58,31 @@ module _ (word s : List ℕ) (i : ℕ) where
   pub up-end : length s ≤ i → upTo word (drop i s) ≡ []
   unfolding upTo
   up-end h = rw (drop-of-length-le s h)
+
+-- the bytes before a word are the first ones
+up-front : (word s : List ℕ) → take (length (upTo word s)) s ≡ upTo word s
+unfolding upTo
+up-front word [] = refl
+up-front word (x ∷ s) = go (beginsWith word (x ∷ s)) (up-front word s)
+  where
+    go : (t : Bool) → take (length (upTo word s)) s ≡ upTo word s → take (length (cond t [] (x ∷ upTo word s))) (x ∷ s) ≡ cond t [] (x ∷ upTo word s)
+    go true e = refl
+    go false e = ap (λ (l : List ℕ). x ∷ l) e
+
+-- a slice up to a word, and one behind it
+pub first-part : (word s : List ℕ) {k : ℕ} → k ≡ length (upTo word s) → take k s ≡ upTo word s
+first-part word s e = rw e (up-front word s)
+
+pub second-part : (word s : List ℕ) (k : ℕ) → drop k s ≡ behind word s → take (length s - k) (drop k s) ≡ behind word s
+second-part word s k e = rest-is s k ∙ e
+
+pub behind-none : (word s : List ℕ) {k : ℕ} → k ≡ length (upTo word s) → length s ≤ k + length word → drop (length s) s ≡ behind word s
+unfolding behind
+behind-none word s {k} e h = let g : length s ≤ length (upTo word s) + length word = omega arith in drop-length s ∙ sym (drop-of-length-le s g)
+
+pub behind-some : (word s : List ℕ) {k : ℕ} → k ≡ length (upTo word s) → drop (k + length word) s ≡ behind word s
+unfolding behind
+behind-some word s e = rw e
 
 -- ---- what was given
 

@@ -1,17 +1,17 @@
 -- Texts put one behind another.
 -- Assumes nothing.
 use mathlib.Core.Path.{_≡_, refl, sym, ap, subst, _∙_}
-use mathlib.Core.List.{List, [], _∷_, _++_, append-assoc, append-nil}
+use mathlib.Core.List.{List, [], _++_, append-assoc, append-nil}
 use Prim.Native.Nat.{ℕ, _+_, _-_, _≤_, _<_, min}
 use native.Mathlib.Nat.{zero-add}
 use native.Mathlib.Omega.{arith}
 use borrow.Author.Tests.{lt-leb}
-use lib.ListN.{length, take, drop, length-append, length-take, length-drop, drop-of-length-le}
-use lib.Seq.{take-all, take-at, take-length, take-append-le, take-append-seam, take-append-add, take-take, length-take-le}
+use lib.ListN.{length, take, drop, length-append, length-take, drop-of-length-le}
+use lib.Seq.{take-all, take-at, take-append-le, take-append-seam, take-append-add, length-take-le}
 use Rattle.laws.specs.Placed.{place}
 use Rattle.laws.proofs.Cases.{by-order}
 use Rattle.laws.proofs.Placed.{length-place, place-none, place-then}
-use Rattle.digits.specs.Bytes.{Counts, endOf, appended, Appended}
+use Rattle.digits.specs.Bytes.{endOf, appended, Appended}
 use Rattle.digits.proofs.Bytes.{placed}
 use Rattle.phrases.specs.Puts.{putEnd, putInto, Puts}
 

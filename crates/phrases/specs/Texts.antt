@@ -45,6 +45,28 @@ sentences =
     line "The file cannot be read."
     line []
 
+-- the desk's own, behind those of the refusals
+abbrev pub longLine : ℕ
+longLine = 15
+
+abbrev pub noSeconds : ℕ
+noSeconds = 16
+
+abbrev pub noName : ℕ
+noName = 17
+
+abbrev pub noMonth : ℕ
+noMonth = 18
+
+abbrev pub noNumber : ℕ
+noNumber = 19
+
+abbrev pub noHex : ℕ
+noHex = 20
+
+abbrev pub noFile : ℕ
+noFile = 21
+
 -- what to do
 abbrev pub advice : List ℕ
 advice =

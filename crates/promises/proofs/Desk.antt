@@ -32,6 +32,7 @@ use Rattle.stamp.specs.Promise.{Reads}
 use Rattle.stamp.proofs.Scales.{instant-is}
 use Rattle.clock.specs.Promise.{firstLabel, admits, Shows}
 use Rattle.clock.proofs.Promise.{all-tick}
+use Rattle.text.specs.declared.TextAnswer.the-variants.{Read as StampRead}
 use Rattle.text.specs.Text.{readText, textResults}
 use Rattle.text.specs.Promise.{AcceptedAs, Names}
 use Rattle.text.proofs.Exactly.{read-exactly}
@@ -50,10 +51,11 @@ use Rattle.phrases.specs.Replies.{Reply, answering}
 use Rattle.seconds.specs.Seconds.{secondsText}
 use Rattle.stampwords.specs.declared.Steps.the-variants.{Count}
 use Rattle.stampwords.specs.declared.SpanAnswer.the-variants.{Lasts}
-use Rattle.stampwords.specs.Stamps.{stampRead}
+use Rattle.stampwords.specs.Stamps.{clockOf, stampRead}
+use Rattle.stampwords.proofs.Stamps.{read-accepted}
 use Rattle.stampwords.specs.Spans.{stepsBetween, stepsInOrder, stepsText, spanOf, betweenAnswer, betweenReply, realName, cell, sheetRow, passAnswer, passReply}
 use Rattle.stampwords.proofs.Spans.{span-of-two}
-use Rattle.tablewords.specs.Loading.{Load, taking, staying, loadedAs, loadedBy, isHex, loadBlock, loadKernel, monthGiven, vouchedBy, vouch}
+use Rattle.tablewords.specs.Loading.{Load, taking, leaving, loadedAs, loadedBy, isHex, loadBlock, loadKernel, monthGiven, vouchedBy, vouch}
 use Rattle.wording.specs.Wording.{requested, judged, answered}
 use Rattle.promises.specs.Desk.{offsetOn, Elapsed, Between, ReadOnUtc, markOf, OnTheDesk, Loading, DeskAnswers}
 
@@ -170,7 +172,7 @@ on-the-desk t a b x y z w g h =
 
 -- what a load does to the table t
 record Keeps (t : Table) (l : Load) : Type 0 where
-  as-it-was : l .reply .good ≡ false → (l .table ≡ t) ⊎ (l .table ≡ noTable)
+  kept-or-lost : l .reply .good ≡ false → (l .table ≡ t) ⊎ (l .table ≡ noTable)
   fine : accepted t ≡ true → (accepted (l .table) ≡ true) ⊎ (l .table ≡ noTable)
 
 -- a load that leaves no table where it is not good
@@ -178,17 +180,17 @@ record Replaces (l : Load) : Type 0 where
   lost : l .reply .good ≡ false → l .table ≡ noTable
   fine : (accepted (l .table) ≡ true) ⊎ (l .table ≡ noTable)
 
-stays : (t : Table) {r : Reply} → Keeps t (staying t r)
-stays t = record { as-it-was = λ e. inl refl; fine = λ h. inl h }
+stays : (t : Table) {r : Reply} → Keeps t (leaving t r)
+stays t = record { kept-or-lost = λ e. inl refl; fine = λ h. inl h }
 
 takes : (u : Table) → accepted u ≡ true → Replaces (taking u)
 takes u h = record { lost = λ e. cc; fine = inl h }
 
-loses : {r : Reply} → Replaces (staying noTable r)
+loses : {r : Reply} → Replaces (leaving noTable r)
 loses = record { lost = λ e. refl; fine = inr refl }
 
 replaced : (t : Table) {l : Load} → Replaces l → Keeps t l
-replaced t p = record { as-it-was = λ e. inr (p .lost e); fine = λ h. p .fine }
+replaced t p = record { kept-or-lost = λ e. inr (p .lost e); fine = λ h. p .fine }
 
 -- a table that is read is accepted
 loaded-replaces : (given : List ℕ) (r : TableRead) → (tableResults r ≡ (0, 0, r .table) → accepted (r .table) ≡ true) → Replaces (loadedBy given r)
@@ -261,13 +263,25 @@ module _ (t : Table) (readable : Bool) (file line : List ℕ) where
   unfolding judged
   judged-loses g = rw (le-leb (length line) 1024 (g .short)) (requested-loses (g .loads) .lost)
 
+none-accepted : accepted noTable ≡ false
+unfolding accepted
+none-accepted = refl
+
+no-stamp : (given : List ℕ) (x : ℤ) (z : Stamp) → stampRead noTable given .answer ≡ StampRead x z → ⊥
+unfolding stampRead
+no-stamp given x z e =
+    let a = read-accepted noTable (clockOf given) (drop (length (before 32 given) + 1) given) x z e in
+    let n : true ≡ false = sym a ∙ none-accepted in
+    let k : _≡_ {A = ℕ} 0 1 = cc in
+    omega arith
+
 pub desk-answers : DeskAnswers
-unfolding answered accepted
+unfolding answered
 desk-answers =
     record {
       ends-its-line = λ t readable file line. (judged t readable file line .reply .text, refl);
-      keeps-or-loses = λ t readable file line. judged-keeps t readable file line .as-it-was;
+      keeps-or-loses = λ t readable file line. judged-keeps t readable file line .kept-or-lost;
       loses-the-table = λ t readable file line. judged-loses t readable file line;
       stays-accepted = λ t readable file line. judged-keeps t readable file line .fine;
-      none-is-not-accepted = refl;
+      none-reads-no-stamp = λ given x z. no-stamp given x z;
     }

@@ -97,5 +97,5 @@ pub record DeskAnswers : Type 0 where
   -- where the table is accepted, so is the table from then on, if there is one
   pub stays-accepted : (t : Table) (readable : Bool) (file line : List ℕ) → accepted t ≡ true
       → (accepted (answered t readable file line .table) ≡ true) ⊎ (answered t readable file line .table ≡ noTable)
-  -- and no stamp is read without one
-  pub none-is-not-accepted : accepted noTable ≡ false
+  -- and without one no stamp is read
+  pub none-reads-no-stamp : (given : List ℕ) (x : ℤ) (z : Stamp) → stampRead noTable given .answer ≡ Read x z → ⊥

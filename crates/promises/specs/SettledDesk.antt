@@ -110,7 +110,7 @@ pub record SettledStampwords : Type 0 where
       Leaves stampwords-say-add.Pre stampwords-say-add.Post (t & line & by & given & out & at & tt) (λ after. t & line & by & given & out becomes after & at & tt)
       (saidAt (now out) at (addReply t (now line) (now by) (now given)))
 
--- after a refusal the table is the one before
+-- a refused block or kernel leaves no table, a refused month the table as it was
 pub record SettledTablewords : Type 0 where
   pub put-entries : (t : Table) (out : Lent (List ℕ)) (at : ℕ) →
       Leaves tablewords-put-entries.Pre tablewords-put-entries.Post (t & out & at & tt) (λ after. t & out becomes after & at & tt) (putAt (now out) at (entriesText t))

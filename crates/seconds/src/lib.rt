@@ -6,7 +6,7 @@ ghost use Rattle.phrases.specs.Puts.{Puts};
 ghost use Rattle.seconds.specs.Seconds.{signText, microsText, secondsText, fractionGiven, microsGiven, ahead as Seconds·ahead, backward as Seconds·backward, moveGiven, Short};
 use digits::Number;
 
-// So many microseconds on or back.
+// So many microseconds on or back; none where no number of seconds was given.
 pub enum Move {
     On(u64),
     Back(u64),

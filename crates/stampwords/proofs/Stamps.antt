@@ -3,10 +3,9 @@
 use mathlib.Core.Path.{_≡_, refl, sym, ap, _∙_}
 use mathlib.Core.Bool.{Bool, true, false}
 use mathlib.Core.List.{List}
-use Prim.Native.Nat.{ℕ, _+_, _*_, _-_, _≤_}
+use Prim.Native.Nat.{ℕ, _+_, _-_, _≤_}
 use native.Mathlib.Omega.{arith}
 use borrow.Author.Tests.{ltb-true}
-use lib.Dec.{ltb}
 use lib.IntN.{ℤ, pos, negsuc, _+ℤ_, _-ℤ_}
 use lib.ListN.{length, take, drop}
 use lib.Signed.{ltZ}
@@ -16,7 +15,7 @@ use Rattle.laws.proofs.Difference.{sum-is, diff-is, integers}
 use Rattle.laws.proofs.Machine.{one-side, fits-to, fits-from}
 use Rattle.leap.specs.declared.Table.{Table}
 use Rattle.leap.specs.Leap.{accepted}
-use Rattle.leap.proofs.Facts.{Accepted, accepted-to}
+use Rattle.leap.proofs.Facts.{accepted-to}
 use Rattle.labels.specs.Labels.{monthOf}
 use Rattle.labels.proofs.Admitted.{admitted-to}
 use Rattle.stamp.specs.declared.Stamp.{Stamp}
@@ -28,10 +27,9 @@ use Rattle.text.specs.declared.TextAnswer.the-variants.{Read}
 use Rattle.text.specs.Text.{readText, textResults}
 use Rattle.text.specs.Promise.{Names}
 use Rattle.text.proofs.Promise.{promised}
-use Rattle.digits.specs.Bytes.{ascii, sameBytes}
+use Rattle.digits.specs.Bytes.{ascii}
 use Rattle.lines.specs.Words.{before}
 use Rattle.lines.proofs.Words.{before-front}
-use Rattle.phrases.proofs.Parts.{same-is}
 use Rattle.stampwords.specs.Stamps.{clockOf, stampRead, Near}
 use Rattle.stampwords.specs.Spans.{stepWord}
 
@@ -40,9 +38,6 @@ use Rattle.stampwords.specs.Spans.{stepWord}
 -- what a slice up to the first b holds
 pub front-is : (b : ℕ) (s : List ℕ) {e : ℕ} → e ≡ 0 + length (before b s) → take e s ≡ before b s
 front-is b s {e} h = let n : e ≡ length (before b s) = omega arith in rw n (before-front b s)
-
-pub same-told : (s w : List ℕ) {r b : Bool} → ((r ≡ true → s ≡ w) × (s ≡ w → r ≡ true)) → r ≡ b → sameBytes s w ≡ b
-same-told s w {r} e q = sym (same-is r s w (e .0) (e .1)) ∙ q
 
 pub word-low : (z : ℤ) → ltZ z (pos 0) ≡ true → ascii "taken out" ≡ stepWord z
 word-low (pos n) e = absurd (omega (arith, ltb-true n 0 e))
@@ -92,9 +87,6 @@ module _ (t : Table) (k : ℕ) (s : List ℕ) (x : ℤ) (z : Stamp) (e : readTex
 
   pub read-accepted : accepted t ≡ true
   read-accepted = named .1 .known .a-table
-
-  pub read-scale : z .scale ≡ scaleOf k
-  read-scale = named .0
 
   pub read-near : Near x
   read-near =

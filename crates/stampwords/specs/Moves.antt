@@ -12,6 +12,7 @@ use Rattle.text.specs.declared.TextAnswer.{TextAnswer}
 use Rattle.text.specs.declared.TextAnswer.the-variants.{Read, Refused}
 use Rattle.text.specs.Text.{writeTests, textAt}
 use Rattle.digits.specs.Bytes.{ascii}
+use Rattle.phrases.specs.Texts.{noSeconds}
 use Rattle.phrases.specs.Replies.{Reply, answering, refusingAs, refusal}
 use Rattle.seconds.specs.declared.Move.{Move}
 use Rattle.seconds.specs.declared.Move.the-variants.{On, Back, NoMove}
@@ -47,7 +48,7 @@ afterReply t line given = movedReply t line given (On 1000000) (clockOf given) 0
 abbrev pub addAnswer : Table → List ℕ → List ℕ → List ℕ → Move → Reply
 addAnswer t line seconds given (On n) = movedReply t line given (On n) (clockOf given) 6
 addAnswer t line seconds given (Back n) = movedReply t line given (Back n) (clockOf given) 6
-addAnswer t line seconds given NoMove = refusingAs 8 16 seconds
+addAnswer t line seconds given NoMove = refusingAs 8 noSeconds seconds
 
 unfoldable pub addReply : Table → List ℕ → List ℕ → List ℕ → Reply
 addReply t line seconds given = addAnswer t line seconds given (moveGiven seconds)

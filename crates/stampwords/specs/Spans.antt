@@ -17,6 +17,7 @@ use Rattle.digits.specs.Bytes.{ascii}
 use Rattle.digits.specs.Decimals.{decimalText}
 use Rattle.lines.specs.Words.{without}
 use Rattle.phrases.specs.Parts.{quoted}
+use Rattle.phrases.specs.Texts.{noName}
 use Rattle.phrases.specs.Replies.{Reply, answering, refusingAs, refusal}
 use Rattle.stampwords.specs.declared.Steps.{Steps}
 use Rattle.stampwords.specs.declared.Steps.the-variants.{Count, OtherClock}
@@ -28,7 +29,7 @@ use Rattle.stampwords.specs.Stamps.{stampRead, beyondText}
 
 -- ---- the steps between
 
--- TAI less the stamp's own clock in the month of its label, in seconds, but for what is fixed
+-- TAI-UTC in the month of its label, in seconds, and 0 on the other clocks
 abbrev pub offsetOn : Table → Stamp → ℤ
 offsetOn t z = offsetsOf t (z .scale) (monthOf (z .reading .label))
 
@@ -102,4 +103,4 @@ passAnswer name a b (First why) = refusal why a
 passAnswer name a b (Second why) = refusal why b
 
 unfoldable pub passReply : Table → List ℕ → List ℕ → List ℕ → Reply
-passReply t name a b = cond (realName name) (passAnswer name a b (spanOf t a b)) (refusingAs 8 17 name)
+passReply t name a b = cond (realName name) (passAnswer name a b (spanOf t a b)) (refusingAs 8 noName name)

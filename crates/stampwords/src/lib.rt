@@ -21,7 +21,7 @@ use stamp::Stamp;
 use text::MarkedText;
 use text::TextAnswer;
 
-// Seconds added between two stamps of one clock.
+// Seconds added between two stamps of one clock, negative where they were taken out; or the clocks differ.
 pub enum Steps {
     Count(i64),
     OtherClock,
@@ -39,7 +39,7 @@ pub enum SpanAnswer {
     Second(Refusal),
 }
 
-// ---- one stamp moved, two subtracted
+// ---- one stamp moved
 
 fn moved(x: i64, m: Move) -> i64
     requires { ⌜ Near x × Short m ⌝ }

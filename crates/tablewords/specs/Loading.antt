@@ -22,7 +22,7 @@ use Rattle.leap.specs.Leap.{vouchedTo, accepted}
 use Rattle.leap.specs.Readers.{noTable}
 use Rattle.block.specs.Reading.{readBlock}
 use Rattle.kernel.specs.Reading.{readKernel}
-use Rattle.phrases.specs.Texts.{refusalText}
+use Rattle.phrases.specs.Texts.{refusalText, noMonth, noHex, noFile}
 use Rattle.phrases.specs.Replies.{Reply, answering, refusingAs, refusal, Says}
 use Rattle.tablewords.specs.declared.Loaded.{Loaded}
 use Rattle.tablewords.specs.Words.{tableWords}
@@ -37,8 +37,8 @@ abbrev pub taking : Table → Load
 taking t = record { reply = answering (tableWords t); table = t }
 
 -- this table from now on, whatever is said
-abbrev pub staying : Table → Reply → Load
-staying t r = record { reply = r; table = t }
+abbrev pub leaving : Table → Reply → Load
+leaving t r = record { reply = r; table = t }
 
 -- ---- a table that was read
 
@@ -51,7 +51,7 @@ placedRefusal why given place = record {
 
 abbrev pub loadedAs : List ℕ → Table → TableAnswer → Load
 loadedAs given new Read = taking new
-loadedAs given new (Refused why place) = staying noTable (placedRefusal why given place)
+loadedAs given new (Refused why place) = leaving noTable (placedRefusal why given place)
 
 -- where none was read there is none from now on: no line is answered by another table than the one that was asked for
 abbrev pub loadedBy : List ℕ → TableRead → Load
@@ -62,11 +62,11 @@ unfoldable pub isHex : List ℕ → Bool
 isHex s = leb (length s / 2) 512 && allPairs s
 
 unfoldable pub loadBlock : List ℕ → Load
-loadBlock hex = cond (isHex hex) (loadedBy hex (readBlock (paired hex))) (staying noTable (refusingAs 8 20 hex))
+loadBlock hex = cond (isHex hex) (loadedBy hex (readBlock (paired hex))) (leaving noTable (refusingAs 8 noHex hex))
 
 -- a file of this name, which can be read or not
 unfoldable pub loadKernel : List ℕ → Bool → List ℕ → Load
-loadKernel given readable file = cond readable (loadedBy given (readKernel file)) (staying noTable (refusingAs 14 21 given))
+loadKernel given readable file = cond readable (loadedBy given (readKernel file)) (leaving noTable (refusingAs 14 noFile given))
 
 -- ---- the month that it is vouched for
 
@@ -84,8 +84,8 @@ monthGiven s =
     Bad
 
 abbrev pub vouchedBy : Table → List ℕ → Number → Load
-vouchedBy t s (Is v) = cond (accepted (vouchedTo v t)) (taking (vouchedTo v t)) (staying t (refusal TABLE s))
-vouchedBy t s Bad = staying t (refusingAs 8 18 s)
+vouchedBy t s (Is v) = cond (accepted (vouchedTo v t)) (taking (vouchedTo v t)) (leaving t (refusal TABLE s))
+vouchedBy t s Bad = leaving t (refusingAs 8 noMonth s)
 
 unfoldable pub vouch : Table → List ℕ → Load
 vouch t s = vouchedBy t s (monthGiven s)

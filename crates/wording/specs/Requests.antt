@@ -8,7 +8,7 @@ use Rattle.phrases.specs.Parts.{beginsWith}
 use Rattle.wording.specs.declared.Request.{Request}
 use Rattle.wording.specs.declared.Request.the-variants.{Between, Show, After, Add, Pass, Entries, Why, Help, Nothing, Unknown}
 
--- a line alone
+-- not about stamps
 unfoldable pub plainRequest : List ℕ → Request
 plainRequest line =
     cond (beginsWith (ascii "why ") line) Why
@@ -16,7 +16,7 @@ plainRequest line =
     (cond (sameBytes line (ascii "help")) Help
     (cond (sameBytes line []) Nothing Unknown)))
 
--- one about stamps
+-- any of them
 unfoldable pub requestOf : List ℕ → Request
 requestOf line =
     cond (beginsWith (ascii "between ") line) Between

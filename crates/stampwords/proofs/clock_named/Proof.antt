@@ -3,7 +3,7 @@
 use borrow.Author.Needs.{needs}
 use Rattle.digits.specs.Bytes.{ascii}
 use Rattle.stampwords.specs.Stamps.{clockNamed}
-use Rattle.stampwords.proofs.Stamps.{same-told}
+use Rattle.phrases.proofs.Parts.{same-told}
 use Rattle.stampwords.proofs.clock_named.Statement.{statement}
 use Rattle.stampwords.proofs.clock_named.Tie as tie
 

@@ -1,7 +1,7 @@
 -- By the answer.
 -- Assumes nothing.
 use borrow.Author.Needs.{needs}
-use mathlib.Core.Path.{refl, sym, ap}
+use mathlib.Core.Path.{sym, ap}
 use Rattle.tablewords.specs.Loading.{loadedAs}
 use Rattle.tablewords.proofs.Loading.{loads-as}
 use Rattle.tablewords.proofs.loaded_by.Statement.{statement}

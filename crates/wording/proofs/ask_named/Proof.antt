@@ -6,7 +6,7 @@ use lib.Seq.{length-take-le}
 use Rattle.digits.specs.Bytes.{ascii}
 use Rattle.phrases.proofs.Replies.{says-as}
 use Rattle.wording.specs.Wording.{askPass}
-use Rattle.wording.proofs.Wording.{first-part, second-part}
+use Rattle.phrases.proofs.Parts.{first-part, second-part}
 use Rattle.wording.proofs.ask_named.Statement.{statement}
 use Rattle.wording.proofs.ask_named.Tie as tie
 

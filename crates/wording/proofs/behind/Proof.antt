@@ -2,7 +2,7 @@
 -- Assumes nothing.
 use borrow.Author.Needs.{needs}
 use native.Mathlib.Omega.{arith}
-use Rattle.wording.proofs.Wording.{behind-none, behind-some}
+use Rattle.phrases.proofs.Parts.{behind-none, behind-some}
 use Rattle.wording.proofs.behind.Statement.{statement}
 use Rattle.wording.proofs.behind.Tie as tie
 

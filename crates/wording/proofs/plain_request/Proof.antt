@@ -5,7 +5,7 @@ use mathlib.Core.Path.{refl, sym, _∙_}
 use mathlib.Core.List.{[]}
 use Rattle.laws.proofs.Branches.{cond-yes, cond-rest}
 use Rattle.digits.specs.Bytes.{ascii}
-use Rattle.stampwords.proofs.Stamps.{same-told}
+use Rattle.phrases.proofs.Parts.{same-told}
 use Rattle.wording.specs.Requests.{plainRequest}
 use Rattle.wording.proofs.plain_request.Statement.{statement}
 use Rattle.wording.proofs.plain_request.Tie as tie
