@@ -9,4 +9,6 @@ pub mod Years
 pub mod Labelled
 pub mod Uniform
 pub mod Judging
+pub mod Lengths
 pub mod Promise
+pub mod Readings

@@ -1,25 +1,28 @@
 -- The days of a scale, by the offsets of its months: which seconds of a label's minute are there, and how many each day has.
 -- Assumes nothing.
-use mathlib.Core.Path.{_≡_, refl, sym, ap, _∙_}
+use mathlib.Core.Path.{_≡_, refl, sym, ap, subst, _∙_}
 use mathlib.Core.Logic.{_⊎_, inl, inr, ⊎-elim, _↔_}
 use mathlib.Core.Bool.{true, false}
 use Prim.Native.Nat.{ℕ, _+_, _-_, _*_, _/_, _%_, _≤_, _<_}
 use native.Mathlib.Omega.{arith}
-use borrow.Author.Tests.{le-leb, lt-ltb}
+use borrow.Author.Tests.{eqb-true, eqb-false, le-leb, lt-ltb}
+use lib.Dec.{eqb}
 use lib.IntN.{ℤ}
 use lib.Signed.{ltZ, _<ℤ_}
-use Rattle.laws.proofs.Cases.{by-test, by-order, and-l, and-r, join}
+use Rattle.laws.proofs.Cases.{pick, by-test, by-order, and-l, and-r, join}
 use Rattle.laws.proofs.Difference.{eq-to, eq-from, lt-to, lt-from, ltZ-true, ltZ-false}
-use Rattle.months.specs.Months.{monthLength}
-use Rattle.months.proofs.Laws.{length-least}
+use Rattle.months.specs.Months.{daysBefore, monthLength}
+use Rattle.months.proofs.Laws.{days-next, length-least}
 use Rattle.labels.specs.declared.Label.{Label}
 use Rattle.labels.specs.Labels.{Offsets, label, whole, lastMinute, monthOf, minuteLength, realYear, realMonth, realDay, realClock, hasSecond}
-use Rattle.labels.specs.Seconds.{timeOfDay, firstMonth, lastMonth}
+use Rattle.labels.specs.Seconds.{timeOfDay, dayCount, firstMonth, lastMonth}
+use Rattle.labels.specs.Lengths.{secondsIn, daySeconds}
 use Rattle.labels.specs.Back.{minuteOf}
 use Rattle.labels.specs.Promise.{hasLabel, date, realDate, LastDay, atEnd, HasSeconds, Days, Higher, Lower, DaysByOffsets}
 use Rattle.labels.proofs.Facts.{year-to, month-to, day-to}
 use Rattle.labels.proofs.Exists.{minute-is, same-label}
 use Rattle.labels.proofs.Admitted.{Admitted, admitted-to}
+use Rattle.labels.proofs.Lengths.{last-range, label-falls}
 
 -- ---- the last minute of a month
 
@@ -123,6 +126,22 @@ module _ (o : Offsets) (l : Label) (real : realDate l ≡ true) (e : ℕ) (low :
             same-label (ap (λ x. x .0) d) (ap (λ x. x .1 .0) d) (ap (λ x. x .1 .1) d) hours minutes (omega arith);
       }
 
+-- as many as the definition says
+pub own-length : (o : Offsets) (l : Label) → realDate l ≡ true → HasSeconds o (date l) (daySeconds o (dayCount l))
+unfolding secondsIn
+own-length o l e =
+    let d = dated l e .days in
+    let m = monthOf l in
+    let end = eqb (dayCount l + 1) (daysBefore (m + 1)) in
+    subst (λ (k : ℕ). HasSeconds o (date l) (secondsIn (eqb (dayCount l + 1) (daysBefore (k + 1))) (o k) (o (k + 1)))) (label-falls l (d .0) (d .1))
+    (pick (HasSeconds o (date l)) end
+    (λ b.
+    let q = eqb-true (dayCount l + 1) (daysBefore (m + 1)) b in
+    has-seconds o l e (lastMinute (o m) (o (m + 1))) (last-range (o m) (o (m + 1)) .0) (last-range (o m) (o (m + 1)) .1) (λ h. refl) (λ h. absurd (omega (arith, days-next m))))
+    (λ b.
+    let q = eqb-false (dayCount l + 1) (daysBefore (m + 1)) b in
+    has-seconds o l e 60 (omega arith) (omega arith) (λ h. absurd (q (omega (arith, days-next m)))) (λ h. refl)))
+
 -- ---- the end of a month
 
 module _ (m s : ℕ) where
@@ -154,6 +173,7 @@ days-by-offsets o =
       one-more = λ l e d w. has-seconds o l e 61 (omega arith) (omega arith) (λ q. last-higher _ _ (w .1 .1)) (λ q. absurd (omega arith));
       one-less = λ l e d w. has-seconds o l e 59 (omega arith) (omega arith) (λ q. last-lower _ _ (w .1 .1)) (λ q. absurd (omega arith));
       all-others = λ l e p q. has-seconds o l e 60 (omega arith) (omega arith) (even l e p q) (λ n. refl);
+      its-own-length = own-length o;
     }
   where
     to60 : (m : ℕ) → hasLabel o (atEnd m 60) ≡ true → Higher o m
@@ -230,4 +250,5 @@ days-said f g d =
       one-more = λ l e q w. d .one-more l e q (f (monthOf l) .1 w);
       one-less = λ l e q w. d .one-less l e q (g (monthOf l) .1 w);
       all-others = λ l e p q. d .all-others l e (λ a w. p a (f (monthOf l) .0 w)) (λ a w. q a (g (monthOf l) .0 w));
+      its-own-length = d .its-own-length;
     }

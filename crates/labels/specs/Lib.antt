@@ -1,4 +1,5 @@
 pub mod Labels
 pub mod Seconds
+pub mod Lengths
 pub mod Back
 pub mod Promise

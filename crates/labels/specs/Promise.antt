@@ -8,7 +8,8 @@ use lib.Signed.{_<ℤ_}
 use Rattle.months.specs.Months.{monthLength}
 use Rattle.labels.specs.declared.Label.{Label}
 use Rattle.labels.specs.Labels.{Offsets, label, whole, monthOf, realYear, realMonth, realDay, admitted}
-use Rattle.labels.specs.Seconds.{timeOfDay, firstMonth, lastMonth}
+use Rattle.labels.specs.Seconds.{timeOfDay, dayCount, firstMonth, lastMonth}
+use Rattle.labels.specs.Lengths.{daySeconds}
 
 -- the scale has the label, from 1972-01-01 00:00:00 to the end of 9999
 abbrev pub hasLabel : Offsets → Label → Bool
@@ -51,6 +52,8 @@ pub record Days (o : Offsets) (Adds Takes : ℕ → Type 0) : Type 0 where
   pub one-more : (l : Label) → realDate l ≡ true → LastDay l → Adds (monthOf l) → HasSeconds o (date l) 86401
   pub one-less : (l : Label) → realDate l ≡ true → LastDay l → Takes (monthOf l) → HasSeconds o (date l) 86399
   pub all-others : (l : Label) → realDate l ≡ true → (LastDay l → Adds (monthOf l) → ⊥) → (LastDay l → Takes (monthOf l) → ⊥) → HasSeconds o (date l) 86400
+  -- as the definition that Julian dates count by says of each
+  pub its-own-length : (l : Label) → realDate l ≡ true → HasSeconds o (date l) (daySeconds o (dayCount l))
 
 -- a month of 1972 to 9999 whose next month's offset is higher, or lower
 abbrev pub Higher : Offsets → ℕ → Type 0

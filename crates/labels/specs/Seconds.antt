@@ -14,9 +14,17 @@ use Rattle.labels.specs.Labels.{Offsets, at, monthOf}
 abbrev pub timeOfDay : Label → ℕ
 timeOfDay l = 3600 * l .hour + (60 * l .minute + l .second)
 
+-- the label's day, counted from 1 January of year 0
+abbrev pub dayCount : Label → ℕ
+dayCount l = daysBefore (monthOf l) + (l .day - 1)
+
 -- counted from the first of year 0, each day 86,400 seconds
 unfoldable pub secondOf : Label → ℕ
-secondOf l = 86400 * (daysBefore (monthOf l) + (l .day - 1)) + timeOfDay l
+secondOf l = 86400 * dayCount l + timeOfDay l
+
+-- the microsecond of its day: one of 23:59:60 belongs to the day that it ends
+abbrev pub microOfDay : Reading → ℕ
+microOfDay r = 1000000 * timeOfDay (r .label) + r .micro
 
 -- what the reading shows: 23:59:60 shows the next day's first second
 abbrev pub microOf : Reading → ℕ

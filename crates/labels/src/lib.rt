@@ -3,6 +3,7 @@
 ghost use mathlib.Core.Path.{_≡_};
 ghost use Prim.Native.Nat.{_-_, _/_, _≤_, min};
 ghost use Rattle.labels.specs.Labels.{monthOf, realYear, realMonth, dayIn, realClock, judged, lastMinute, inLastMinute, minuteIn};
+ghost use Rattle.labels.specs.Lengths.{secondsIn};
 ghost use Rattle.labels.specs.Back.{minuteOf, inDay, labelOf};
 use answer::Refusal;
 
@@ -157,6 +158,16 @@ pub fn minute_length(days: u32, here: i32, next: i32, l: Label) -> u32
     60
 }
 
+// The seconds of a day, which may be the last of its month.
+pub fn day_seconds(last: bool, here: i32, next: i32) -> u32
+    ensures { λ r. ⌜ r ≡ secondsIn last here next ⌝ }
+{
+    if last {
+        return 86340 + last_minute(here, next);
+    }
+    86400
+}
+
 // ---- the label of a second
 
 fn minute_of(rest: u32) -> u32
@@ -184,7 +195,8 @@ fn in_day(m: u32, d: u32, rest: u32) -> Label
     }
 }
 
-fn day_of(days: u32, rest: u32) -> u32
+// The day that a second of a month of so many days is in, counted from 0; the last takes what is left.
+pub fn day_of(days: u32, rest: u32) -> u32
     ensures { λ r. ⌜ r ≡ min (rest / 86400) (days - 1) ⌝ }
 {
     if days < 1 {

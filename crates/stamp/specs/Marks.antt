@@ -1,5 +1,5 @@
 -- The marks beside answers: an answer that used UTC says whether its UTC month lies beyond the last that the table is vouched for. A uniform scale has no mark,
--- and neither has a refusal. The answers themselves are those of Stamps and Back.
+-- and neither has a refusal. The answers themselves are those of Stamps and Days.
 -- Assumes nothing.
 use mathlib.Core.Bool.{Bool, false}
 use Prim.Native.Nat.{ℕ}
@@ -7,8 +7,7 @@ use lib.IntN.{ℤ}
 use Rattle.leap.specs.declared.Table.{Table}
 use Rattle.leap.specs.Leap.{beyond}
 use Rattle.labels.specs.declared.Reading.{Reading}
-use Rattle.labels.specs.Labels.{uniform, monthOf}
-use Rattle.labels.specs.Back.{readingAt}
+use Rattle.labels.specs.Labels.{monthOf}
 use Rattle.stamp.specs.declared.Scale.{Scale}
 use Rattle.stamp.specs.declared.Scale.the-variants.{Utc, Tai, Tdt, Gps}
 use Rattle.stamp.specs.declared.InstantAnswer.{InstantAnswer}
@@ -17,12 +16,14 @@ use Rattle.stamp.specs.declared.StampAnswer.{StampAnswer}
 use Rattle.stamp.specs.declared.StampAnswer.the-variants.{Stamped, Refused as NoStamp}
 use Rattle.stamp.specs.declared.ShownAnswer.{ShownAnswer}
 use Rattle.stamp.specs.declared.ShownAnswer.the-variants.{Shown, Refused as NotShown}
+use Rattle.stamp.specs.declared.DayStart.{DayStart}
 use Rattle.stamp.specs.declared.MarkedInstant.{MarkedInstant}
 use Rattle.stamp.specs.declared.MarkedStamp.{MarkedStamp}
 use Rattle.stamp.specs.declared.MarkedShown.{MarkedShown}
 use Rattle.stamp.specs.Scales.{scaleOf}
 use Rattle.stamp.specs.Stamps.{instantOf, stampOf}
-use Rattle.stamp.specs.Back.{stampAt, shownOf, instantShowing}
+use Rattle.stamp.specs.Back.{stampAt}
+use Rattle.stamp.specs.Days.{shownOf, instantOn}
 
 -- `beyond_on`: the calendar's month m on a scale, under a table of number v
 abbrev pub beyondOn : ℕ → Scale → ℕ → Bool
@@ -71,9 +72,9 @@ instantOfMarked t k r = markedInstant (instantOf t k r) (beyondReading t (scaleO
 abbrev pub stampOfMarked : Table → ℤ → ℕ → MarkedStamp
 stampOfMarked t x k = markedStamp (stampOf t x k) (beyondAt t (scaleOf k) x)
 
--- `shown_of` and `instant_showing`, for Julian dates
+-- `shown_of` and `instant_on`, for Julian dates
 abbrev pub shownOfMarked : Table → ℤ → ℕ → MarkedShown
 shownOfMarked t x k = markedShown (shownOf t x k) (beyondAt t (scaleOf k) x)
 
-abbrev pub instantShowingMarked : Table → Scale → ℕ → MarkedInstant
-instantShowingMarked t s u = markedInstant (instantShowing t s u) (beyondReading t s (readingAt uniform u))
+abbrev pub instantOnMarked : ℕ → Scale → DayStart → ℕ → MarkedInstant
+instantOnMarked v s b u = markedInstant (instantOn s b u) (beyondOn v s (b .month))

@@ -6,9 +6,13 @@ use lib.IntN.{ℤ, pos}
 use Rattle.answer.specs.declared.Refusal.the-variants.{Range as RANGE}
 use Rattle.answer.specs.Refusals.{refusing}
 use Rattle.leap.specs.declared.Table.{Table}
-use Rattle.labels.specs.Back.{placeAt}
+use Rattle.labels.specs.Labels.{Offsets}
+use Rattle.labels.specs.Seconds.{dayCount}
+use Rattle.labels.specs.Lengths.{daySeconds}
+use Rattle.labels.specs.Back.{placeAt, labelAt}
 use Rattle.stamp.specs.declared.Scale.{Scale}
 use Rattle.stamp.specs.declared.Scale.the-variants.{Utc, Tai, Tdt, Gps}
+use Rattle.stamp.specs.declared.Spot.{Spot}
 use Rattle.stamp.specs.declared.Moment.{Moment}
 use Rattle.stamp.specs.declared.MomentAnswer.{MomentAnswer}
 use Rattle.stamp.specs.declared.MomentAnswer.the-variants.{In, Refused as Nowhere}
@@ -22,9 +26,13 @@ firstOffset Tai = pos 0
 firstOffset Tdt = pos 0
 firstOffset Gps = pos 0
 
--- where an instant falls: a second of a month, and the microsecond of that
+-- a second of the axis: its month, and the seconds of its day
+abbrev pub spotAt : Offsets → ℕ → Spot
+spotAt o s = record { place = placeAt o s; seconds = daySeconds o (dayCount (labelAt o s)) }
+
+-- where an instant falls: a second, and the microsecond of that
 abbrev pub momentAt : Table → Scale → ℤ → Moment
-momentAt t s x = record { scale = s; place = placeAt (offsetsOf t s) (axisCount s x / 1000000); micro = axisCount s x % 1000000 }
+momentAt t s x = record { scale = s; spot = spotAt (offsetsOf t s) (axisCount s x / 1000000); micro = axisCount s x % 1000000 }
 
 abbrev pub momentIn : Table → Scale → ℤ → MomentAnswer
 momentIn t s x = refusing Nowhere ((inRange t s x, RANGE) ∷ []) (In (momentAt t s x))

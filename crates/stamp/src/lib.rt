@@ -11,14 +11,15 @@ ghost use Rattle.answer.specs.Refusals.{refusing};
 ghost use Rattle.leap.specs.Leap.{tabled, vouchedTo, accepted};
 ghost use Rattle.months.specs.Months.{daysBefore};
 ghost use Rattle.labels.specs.declared.Judged.the-variants.{Real};
-ghost use Rattle.labels.specs.Labels.{uniform, monthOf, judged, hasSecond};
+ghost use Rattle.labels.specs.Labels.{monthOf, judged, hasSecond};
 ghost use Rattle.labels.specs.Seconds.{microOf, axisAt, inYears, lastMonth};
-ghost use Rattle.labels.specs.Back.{dayBegins, placeAt};
+ghost use Rattle.labels.specs.Back.{dayBegins};
 ghost use Rattle.stamp.specs.Scales.{scaleOf, scaleNumber, asked, fixed, offsetsOf, mostSecond, toInstant, instantFor};
-ghost use Rattle.stamp.specs.Parts.{firstOffset, momentIn, momentOf};
+ghost use Rattle.stamp.specs.Parts.{firstOffset, spotAt, momentIn, momentOf};
 ghost use Rattle.stamp.specs.Back.{inRange, axisCount};
+ghost use Rattle.stamp.specs.Days.{dayOn};
 ghost use Rattle.stamp.specs.Stamps.{instantIn};
-ghost use Rattle.stamp.specs.Marks.{beyondOn, markedInstant, instantOfMarked, stampOfMarked, shownOfMarked, instantShowingMarked};
+ghost use Rattle.stamp.specs.Marks.{beyondOn, markedInstant, instantOfMarked, stampOfMarked, shownOfMarked, instantOnMarked};
 use answer::Refusal;
 use labels::Judged;
 use labels::Month;
@@ -55,10 +56,30 @@ pub enum StampAnswer {
     Refused(Refusal),
 }
 
-// What a scale shows, in microseconds from year 0 on days of 86,400 seconds.
+// What a scale shows: a day, counted from year 0, the microsecond of it, and how many seconds the day has.
+pub struct DayTime {
+    pub day: u32,
+    pub micro: u64,
+    pub seconds: u32,
+}
+
 pub enum ShownAnswer {
-    Shown(u64),
+    Shown(DayTime),
     Refused(Refusal),
+}
+
+// A day and its month, both counted from year 0, and TAI less the scale in it, in seconds.
+pub struct DayStart {
+    pub number: u64,
+    pub month: u64,
+    pub offset: i32,
+}
+
+// A day, the next one, and how many seconds lie between their midnights.
+pub struct DaySpan {
+    pub this: DayStart,
+    pub next: DayStart,
+    pub seconds: u32,
 }
 
 // Beside each answer stands its mark: on UTC, whether the month lies beyond the one that the table is vouched for.
@@ -77,10 +98,16 @@ pub struct MarkedShown {
     pub beyond: bool,
 }
 
-// Where an instant falls on its scale: a second of a month, and the microsecond of that.
+// A second of a month, and how many seconds its day has.
+struct Spot {
+    place: Place,
+    seconds: u32,
+}
+
+// Where an instant falls on its scale: a second, and the microsecond of that.
 struct Moment {
     scale: Scale,
-    place: Place,
+    spot: Spot,
     micro: u32,
 }
 
@@ -114,6 +141,14 @@ impl Scale {
     pub const FIRST: u64 = 62230291200000000;
 
     pub const LAST: u64 = 315569519999999999;
+
+    // 1 January 1972 and 31 December 9999.
+    const FIRST_DAY: u64 = 720258;
+
+    const LAST_DAY: u64 = 3652424;
+
+    // The microseconds of a day with an added second.
+    const LONGEST: u64 = 86401000000;
 
     // December 9999.
     const LAST_MONTH: u32 = 119999;
@@ -364,18 +399,18 @@ fn elapsed(day: u64, offset: i32, second: u64) -> i64
     s - (d + o)
 }
 
-// The month that a microsecond of the axis falls in, and the second of it. Offsets are at most 73 seconds: the month of 128 seconds
-// before is that month or the one before it, whose end the same read of the calendar gives.
-fn place_at<'a>(
+// The month that a microsecond of the axis falls in, the second of it and the seconds of its day. Offsets are at most 73 seconds: the
+// month of 128 seconds before is that month or the one before it, whose end the same read of the calendar gives.
+fn spot_at<'a>(
     scale: Scale,
     count: usize,
     months: &'a [u32; 64],
     offsets: &'a [i32; 64],
     axis: u64,
-) -> Place
+) -> Spot
     requires { ⌜ accepted (tabled count (now months) (now offsets)) ≡ true ⌝ }
     requires { ⌜ inYears (offsetsOf (tabled count (now months) (now offsets)) scale) (pos axis) ≡ true ⌝ }
-    ensures { λ r. ⌜ r ≡ placeAt (offsetsOf (tabled count (now (months .entry)) (now (offsets .entry))) scale) (axis / 1000000) ⌝ }
+    ensures { λ r. ⌜ r ≡ spotAt (offsetsOf (tabled count (now (months .entry)) (now (offsets .entry))) scale) (axis / 1000000) ⌝ }
 {
     let second = axis / 1000000;
     let span = calendar::month_of_day(((second - 128) / 86400) as u32);
@@ -384,20 +419,27 @@ fn place_at<'a>(
     let end = span.start + span.length as u64;
     let past = elapsed(end, near.next, second);
     if 0 <= past {
-        return Place {
-            month: m + 1,
-            start: end,
-            days: calendar::month_length(m + 1),
-            second: past as u32,
+        // So soon behind its begin it is the month's first day.
+        return Spot {
+            place: Place {
+                month: m + 1,
+                start: end,
+                days: calendar::month_length(m + 1),
+                second: past as u32,
+            },
+            seconds: 86400,
         };
     }
-    let rest = elapsed(span.start, near.here, second);
-    Place {
+    let rest = elapsed(span.start, near.here, second) as u32;
+    let last = 86400 * (span.length - 1) <= rest;
+    let seconds = labels::day_seconds(last, near.here, near.next);
+    let place = Place {
         month: m,
         start: span.start,
         days: span.length,
-        second: rest as u32,
-    }
+        second: rest,
+    };
+    Spot { place, seconds }
 }
 
 // The scale has a label for a microsecond of its axis.
@@ -454,13 +496,9 @@ fn moment_in<'a>(
         return MomentAnswer::Refused(Refusal::Range);
     }
     let axis = scale.axis(instant);
-    let place = place_at(scale, count, months, offsets, axis);
+    let spot = spot_at(scale, count, months, offsets, axis);
     let micro = (axis % 1000000) as u32;
-    MomentAnswer::In(Moment {
-        scale,
-        place,
-        micro,
-    })
+    MomentAnswer::In(Moment { scale, spot, micro })
 }
 
 fn moment_of<'a>(
@@ -492,13 +530,13 @@ pub fn stamp_of_in<'a>(
 {
     match moment_of(count, months, offsets, vouched, instant, scale) {
         MomentAnswer::In(m) => {
-            let label = labels::label_of(m.place);
+            let label = labels::label_of(m.spot.place);
             let reading = Reading {
                 label,
                 micro: m.micro,
             };
             let scale = m.scale;
-            let beyond = beyond_on(scale, vouched, m.place.month as u64);
+            let beyond = beyond_on(scale, vouched, m.spot.place.month as u64);
             let answer = StampAnswer::Stamped(Stamp { scale, reading });
             MarkedStamp { answer, beyond }
         }
@@ -515,9 +553,9 @@ pub fn stamp_of(t: Table, instant: i64, scale: u32) -> MarkedStamp
     stamp_of_in(t.count, &t.months, &t.offsets, t.vouched, instant, scale)
 }
 
-// ---- what a scale shows
+// ---- days
 
-// What a scale shows at an instant.
+// The day that a scale shows at an instant, and the microsecond of it.
 pub fn shown_of<'a>(
     count: usize,
     months: &'a [u32; 64],
@@ -530,11 +568,18 @@ pub fn shown_of<'a>(
 {
     match moment_of(count, months, offsets, vouched, instant, scale) {
         MomentAnswer::In(m) => {
-            let p = m.place;
-            let micro = 1000000 * (86400 * p.start + p.second as u64) + m.micro as u64;
-            let answer = ShownAnswer::Shown(micro);
+            let seconds = m.spot.seconds;
+            let p = m.spot.place;
+            let d = labels::day_of(p.days, p.second);
+            let day = (p.start + d as u64) as u32;
+            let micro = 1000000 * (p.second - 86400 * d) as u64 + m.micro as u64;
             let scale = m.scale;
             let beyond = beyond_on(scale, vouched, p.month as u64);
+            let answer = ShownAnswer::Shown(DayTime {
+                day,
+                micro,
+                seconds,
+            });
             MarkedShown { answer, beyond }
         }
         MomentAnswer::Refused(why) => MarkedShown {
@@ -544,47 +589,69 @@ pub fn shown_of<'a>(
     }
 }
 
-// The place of a microsecond from 1972 to 9999 on days of 86,400 seconds.
-fn place_showing(micro: u64) -> Place
-    requires { ⌜ (62230291200000000 ≤ micro) × (micro ≤ 315569519999999999) ⌝ }
-    ensures { λ r. ⌜ r ≡ placeAt uniform (micro / 1000000) ⌝ }
-{
-    let second = micro / 1000000;
-    let span = calendar::month_of_day((second / 86400) as u32);
-    Place {
-        month: span.number,
-        start: span.start,
-        days: span.length,
-        second: (second - 86400 * span.start) as u32,
-    }
-}
-
-// The instant at which a scale shows a microsecond, in a second that is no 60: for callers that have asked for scale and table.
-pub fn instant_showing<'a>(
+// A day of a scale, and the next one.
+pub fn day_on<'a>(
     scale: Scale,
     count: usize,
     months: &'a [u32; 64],
     offsets: &'a [i32; 64],
-    vouched: u32,
-    micro: u64,
-) -> MarkedInstant
-    ensures { λ a. ⌜ a ≡ instantShowingMarked (vouchedTo vouched (tabled count (now (months .entry)) (now (offsets .entry)))) scale micro ⌝ }
+    day: u32,
+) -> DaySpan
+    ensures { λ r. ⌜ r ≡ dayOn (offsetsOf (tabled count (now (months .entry)) (now (offsets .entry))) scale) day ⌝ }
 {
-    if micro < Scale::FIRST {
-        return refused_instant(Refusal::Range);
-    }
-    if Scale::LAST < micro {
-        return refused_instant(Refusal::Range);
-    }
-    let p = place_showing(micro);
-    let l = labels::label_of(p);
-    let near = scale.near(count, months, offsets, p.month);
+    let span = calendar::month_of_day(day);
+    let m = span.number;
+    let near = scale.near(count, months, offsets, m);
     let here = near.here;
-    if labels::minute_length(p.days, here, near.next, l) <= l.second {
-        return refused_instant(Refusal::NoSecond);
+    let number = day as u64;
+    let month = m as u64;
+    let last = number + 1 == span.start + span.length as u64;
+    let seconds = labels::day_seconds(last, here, near.next);
+    let this = DayStart {
+        number,
+        month,
+        offset: here,
+    };
+    if last {
+        let next = DayStart {
+            number: number + 1,
+            month: month + 1,
+            offset: near.next,
+        };
+        return DaySpan {
+            this,
+            next,
+            seconds,
+        };
+    }
+    let next = DayStart {
+        number: number + 1,
+        month,
+        offset: here,
+    };
+    DaySpan {
+        this,
+        next,
+        seconds,
+    }
+}
+
+// The instant of a microsecond of a day: for callers that have asked for scale and table.
+pub fn instant_on(scale: Scale, vouched: u32, day: DayStart, micro: u64) -> MarkedInstant
+    ensures { λ a. ⌜ a ≡ instantOnMarked vouched scale day micro ⌝ }
+{
+    let number = day.number;
+    if number < Scale::FIRST_DAY {
+        return refused_instant(Refusal::Range);
+    }
+    if Scale::LAST_DAY < number {
+        return refused_instant(Refusal::Range);
+    }
+    if Scale::LONGEST < micro {
+        return refused_instant(Refusal::Range);
     }
     MarkedInstant {
-        answer: InstantAnswer::At(scale.instant(micro, here)),
-        beyond: beyond_on(scale, vouched, p.month as u64),
+        answer: InstantAnswer::At(scale.instant(86400000000 * number + micro, day.offset)),
+        beyond: beyond_on(scale, vouched, day.month),
     }
 }

@@ -1,4 +1,4 @@
--- `stamp::moment_in` meets its contract: range, then the place of the axis' second.
+-- `stamp::moment_in` meets its contract: range, then the spot of the axis' second.
 -- Assumes nothing.
 use mathlib.Core.Path.{_≡_, sym, ap, ap₂, subst, _∙_}
 use mathlib.Core.Bool.{true}
@@ -14,12 +14,12 @@ use Rattle.answer.proofs.Orders.{refused, passed}
 use Rattle.leap.specs.declared.Table.{Table}
 use Rattle.leap.specs.Leap.{tabled}
 use Rattle.leap.proofs.Facts.{Accepted, accepted-to}
-use Rattle.labels.specs.declared.Place.{Place}
 use Rattle.labels.specs.Seconds.{inYears}
-use Rattle.labels.specs.Back.{placeAt}
+use Rattle.stamp.specs.declared.Spot.{Spot}
 use Rattle.stamp.specs.declared.MomentAnswer.the-variants.{In}
 use Rattle.stamp.specs.Scales.{offsetsOf}
 use Rattle.stamp.specs.Back.{inRange, axisCount}
+use Rattle.stamp.specs.Parts.{spotAt}
 use Rattle.stamp.proofs.Ranges.{range-low, range-high, count-in-years}
 use Rattle.stamp.proofs.moment_in.Statement.{statement}
 use Rattle.stamp.proofs.moment_in.Tie as tie
@@ -67,6 +67,6 @@ moment-in-spec =
     let b = a .before .before .before in
     let o = offsetsOf (table b) (b .args .scale) in
     passed _ (within (a .before))
-    (ap₂ (λ (p : Place) (u : ℕ). In (record { scale = b .args .scale; place = p; micro = u }))
-    (c .place-at .ensures ∙ ap (λ (n : ℕ). placeAt o (n / 1000000)) (axis-told a))
+    (ap₂ (λ (p : Spot) (u : ℕ). In (record { scale = b .args .scale; spot = p; micro = u }))
+    (c .spot-at .ensures ∙ ap (λ (n : ℕ). spotAt o (n / 1000000)) (axis-told a))
     (ap (λ (n : ℕ). n % 1000000) (axis-told a)))))

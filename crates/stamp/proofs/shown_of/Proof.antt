@@ -1,5 +1,6 @@
-use mathlib.Core.Path.{_≡_, sym, ap, _∙_}
-use Prim.Native.Nat.{_+_, _*_, _≤_}
+use mathlib.Core.Path.{_≡_, sym, ap, ap₂, _∙_}
+use mathlib.Core.Bool.{Bool}
+use Prim.Native.Nat.{ℕ, _+_, _-_, _*_, _≤_}
 use native.Mathlib.Omega.{arith}
 use borrow.Author.Needs.{needs}
 use lib.IntN.{ℤ}
@@ -29,17 +30,18 @@ module _ (c : tie.After-moment-of) where
   answered : {v : MomentAnswer} → c .moment-of .result ≡ v → shown (s .args .vouched) v ≡ shownOfMarked table (s .args .instant) (s .args .scale)
   answered e = ap (shown (s .args .vouched)) (sym (told e)) ∙ shown-of-moment table (s .args .instant) (s .args .scale)
 
-  few : {m : Moment} → c .moment-of .result ≡ In m → (m .place .start ≤ 4000000) × ((m .place .second ≤ 3000000) × (m .micro ≤ 999999))
+  few : {m : Moment} → c .moment-of .result ≡ In m → (m .spot .place .start ≤ 4000000) × ((m .spot .place .second ≤ 3000000) × (m .micro ≤ 999999))
   few {m} e = moment-few table (s .args .instant) (s .args .scale) m (told e)
 
-small : (c : tie.After-m) → let m = c .m .given .0 .0 in (m .place .start ≤ 4000000) × ((m .place .second ≤ 3000000) × (m .micro ≤ 999999))
+small : (c : tie.After-m) → let m = c .m .given .0 .0 in (m .spot .place .start ≤ 4000000) × ((m .spot .place .second ≤ 3000000) × (m .micro ≤ 999999))
 small c = few (c .before .before) (c .m .given .1)
 
 returns : tie.Need-returns
 returns c =
-    let k = c .before .before .before .before .before .before .before in
+    let d = c .before .before .before .before .before in
+    let k = d .before .before .before in
     let m = k .m .given .0 .0 in
-    ap (markedShown (Shown (1000000 * (86400 * m .place .start + m .place .second) + m .micro))) (c .beyond-on .ensures)
+    ap₂ (λ (n : ℕ) (b : Bool). markedShown (Shown (record { day = m .spot .place .start + n; micro = 1000000 * (m .spot .place .second - 86400 * n) + m .micro; seconds = m .spot .seconds })) b) (d .day-of .ensures) (c .beyond-on .ensures)
     ∙ answered (k .before .before) (k .m .given .1)
 
 pub shown-of-spec : {M : Type 1} → statement M
@@ -48,12 +50,16 @@ shown-of-spec =
     (tie.spec
     (λ c κs. search needs)
     (λ c. search needs)
-    (λ c. omega (arith, small (c .before .before .before)))
+    (λ c κs. search needs)
     (λ c. search needs)
-    (λ c. omega (arith, small (c .before .before .before .before)))
-    (λ c. omega (arith, small (c .before .before .before .before)))
+    (λ c. record { fits = omega (arith, c .before .day-of .ensures, small (c .before .before .before .before)) })
+    (λ c. record { fits = omega (arith, c .before .day-of .ensures, small (c .before .before .before .before)) })
     (λ c. search needs)
-    (λ c. omega (arith, small (c .before .before .before .before .before)))
+    (λ c. search needs)
+    (λ c. search needs)
+    (λ c. search needs)
+    (λ c. search needs)
+    (λ c. search needs)
     (λ c. search needs)
     (λ c κs. search needs)
     (λ c. search needs)

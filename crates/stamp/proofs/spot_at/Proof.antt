@@ -1,35 +1,40 @@
--- `stamp::place_at` meets its contract, by the laws of Guess.
+-- `stamp::spot_at` meets its contract, by the laws of Guess.
 -- Assumes nothing.
 use mathlib.Core.Path.{_≡_, refl, sym, ap, ap₂, _∙_}
 use mathlib.Core.Bool.{true, false}
-use Prim.Native.Nat.{ℕ, _+_, _*_, _/_, _≤_, _<_}
+use Prim.Native.Nat.{ℕ, _+_, _-_, _*_, _/_, _≤_, _<_}
 use native.Mathlib.Omega.{arith}
 use borrow.Author.Needs.{needs, sfits-of}
-use lib.Dec.{T}
+use borrow.Author.Tests.{lt-leb}
+use lib.Dec.{T, leb}
 use lib.IntN.{ℤ, pos, natAbs, _-ℤ_}
 use lib.Signed.{leZ, nonNeg}
 use mir.Syntax.{w32, w64}
 use mir.Val.{SFits, Fits, toZ, ofZ}
 use mir.Facts.{toZ-ofZ}
+use Rattle.laws.proofs.Branches.{cond-rest}
 use Rattle.laws.proofs.Cases.{by-truth}
 use Rattle.laws.proofs.Difference.{up, down, leZ-true, diff-is, sum-is, le-leZ}
-use Rattle.laws.proofs.Machine.{read1, nonNeg-from, one-side}
+use Rattle.laws.proofs.Machine.{read1, read2, nonNeg-from, one-side}
 use Rattle.laws.proofs.Offsets.{Steps}
 use Rattle.calendar.specs.declared.Span.{Span}
 use Rattle.months.specs.Months.{daysBefore, monthLength}
-use Rattle.months.proofs.Laws.{days-next, days-most}
+use Rattle.months.proofs.Laws.{days-next, days-most, length-least, length-most}
 use Rattle.leap.specs.Leap.{tabled}
 use Rattle.leap.proofs.Facts.{accepted-to}
 use Rattle.labels.specs.Labels.{Offsets}
 use Rattle.labels.specs.Seconds.{lastMonth}
-use Rattle.labels.specs.Back.{dayBegins, begins, since, placeAt, monthAt}
+use Rattle.labels.specs.Lengths.{secondsIn}
+use Rattle.labels.specs.Back.{dayBegins, begins, since, monthAt, labelAt}
 use Rattle.labels.proofs.Falls.{Begun, Covered, guess}
 use Rattle.labels.proofs.Guess.{second-range, guess-most, in-next, next-rest, in-guess, guess-rest, month-is}
 use Rattle.labels.proofs.Years.{covered-to}
+use Rattle.labels.proofs.Lengths.{place-seconds}
 use Rattle.stamp.specs.Scales.{offsetsOf}
+use Rattle.stamp.specs.Parts.{spotAt}
 use Rattle.stamp.proofs.Scales.{steps}
-use Rattle.stamp.proofs.place_at.Statement.{statement}
-use Rattle.stamp.proofs.place_at.Tie as tie
+use Rattle.stamp.proofs.spot_at.Statement.{statement}
+use Rattle.stamp.proofs.spot_at.Tie as tie
 
 -- what the caller has shown
 module _ (c : tie.Start) where
@@ -157,12 +162,31 @@ module _ (c : tie.After-elapsed2) where
       begun-is (c .elapsed2 .result) (pos (s a)) (begins (o a) (guess (s a))) rest-is
       ∙ leZ-begun (o a) (guess (s a)) (s a) (in-guess (o a) (st a) (s a) (covered a) no .begun)
 
--- the record that the code makes, where it is the definition's month
-placed : (o : Offsets) (s n m d k r : ℕ) → monthAt o s lastMonth ≡ m → n ≡ m → d ≡ daysBefore m → k ≡ monthLength m → r ≡ since (daysBefore m) (o m) s → record { month = n; start = d; days = k; second = r } ≡ placeAt o s
-placed o s n m d k r e p q f g = rw e (cc)
+-- the seconds of its day
+day-told : (c : tie.After-day-seconds) → let e = c .before .before .before .before in let a = b (then e) in c .day-seconds .result ≡ secondsIn (leb (86400 * (monthLength (guess (s a)) - 1)) (since (daysBefore (guess (s a))) (o a (guess (s a))) (s a))) (o a (guess (s a))) (o a (guess (s a) + 1))
+day-told c =
+    let e = c .before .before .before .before in
+    let a = b (then e) in
+    let m = month (then e) in
+    let near = then e .before .before .before .before in
+    let rest = ap natAbs (toZ-ofZ (rest-fits e)) ∙ rest-since e in
+    let here = near .near .ensures .0 ∙ ap (o a) (number-is m) in
+    let next = near .near .ensures .1 ∙ ap (λ (k : ℕ). o a (k + 1)) (number-is m) in
+    read2 (secondsIn (leb (86400 * (m .month-of-day .result .length - 1)) (natAbs (toZ w64 (ofZ w64 (e .elapsed2 .result)))))) (here-fits e) (next-fits (then e)) (c .day-seconds .ensures)
+    ∙ cc (length-is m)
 
-pub place-at-spec : {M : Type 1} → statement M
-place-at-spec =
+-- the record that the code makes, where it is the definition's month
+spotted : (o : Offsets) (s n m d k r z : ℕ) → monthAt o s lastMonth ≡ m → n ≡ m → d ≡ daysBefore m → k ≡ monthLength m → r ≡ since (daysBefore m) (o m) s → z ≡ secondsIn (leb (86400 * (monthLength m - 1)) (since (daysBefore m) (o m) s)) (o m) (o (m + 1)) → record { place = record { month = n; start = d; days = k; second = r }; seconds = z } ≡ spotAt o s
+unfolding labelAt
+spotted o s n m d k r z e p q f g h = let w = h ∙ place-seconds o s m in rw e (cc)
+
+-- a second of a month's first day
+first-day : (m r : ℕ) (x y : ℤ) → r < 86400 → 86400 ≡ secondsIn (leb (86400 * (monthLength m - 1)) r) x y
+unfolding secondsIn
+first-day m r x y h = cond-rest _ (lt-leb (86400 * (monthLength m - 1)) r (omega (arith, length-least m))) refl
+
+pub spot-at-spec : {M : Type 1} → statement M
+spot-at-spec =
     tie.close
     (tie.spec
     (λ c. range c .0)
@@ -180,10 +204,15 @@ place-at-spec =
     let a = b (t .before) in
     let m = month (t .before) in
     let i = in-next (o a) (st a) (s a) (covered a) (yes t) in
-    placed (o a) (s a) _ (guess (s a) + 1) _ _ _ (month-is (o a) (st a) (s a) (covered a) (guess (s a) + 1) i) (ap (λ (n : ℕ). n + 1) (number-is m)) (end-is m) (c .month-length .ensures ∙ ap (λ (n : ℕ). monthLength (n + 1)) (number-is m)) (ap natAbs (toZ-ofZ (past-fits (t .before))) ∙ past-since t))
+    spotted (o a) (s a) _ (guess (s a) + 1) _ _ _ _ (month-is (o a) (st a) (s a) (covered a) (guess (s a) + 1) i) (ap (λ (n : ℕ). n + 1) (number-is m)) (end-is m) (c .month-length .ensures ∙ ap (λ (n : ℕ). monthLength (n + 1)) (number-is m)) (ap natAbs (toZ-ofZ (past-fits (t .before))) ∙ past-since t)
+    (first-day (guess (s a) + 1) _ _ _ (omega (arith, past-since t, past-few t))))
     (λ c κs. let m = month (c .before .before) in (omega (arith, start-is m, days-next (guess (s (m .before))), days-few m), omega (arith, range (m .before))))
     (λ c. counts (c .elapsed2 .result) (rest-fits c) (rest-begun c) _ refl (omega (arith, rest-few c)))
-    (λ c. let a = b (then c) in
-    let m = month (then c) in
-    let i = in-guess (o a) (st a) (s a) (covered a) (no c) in
-    placed (o a) (s a) _ (guess (s a)) _ _ _ (month-is (o a) (st a) (s a) (covered a) (guess (s a)) i) (number-is m) (start-is m) (length-is m) (ap natAbs (toZ-ofZ (rest-fits c)) ∙ rest-since c)))
+    (λ c. let m = month (then (c .before)) in omega (arith, length-is m, length-least (guess (s (m .before)))))
+    (λ c. let m = month (then (c .before)) in record { fits = omega (arith, length-is m, length-most (guess (s (m .before)))) })
+    (λ c κs. search needs)
+    (λ c. let e = c .before .before .before .before in
+    let a = b (then e) in
+    let m = month (then e) in
+    let i = in-guess (o a) (st a) (s a) (covered a) (no e) in
+    spotted (o a) (s a) _ (guess (s a)) _ _ _ _ (month-is (o a) (st a) (s a) (covered a) (guess (s a)) i) (number-is m) (start-is m) (length-is m) (ap natAbs (toZ-ofZ (rest-fits e)) ∙ rest-since e) (day-told c)))
