@@ -1,0 +1,4 @@
+pub mod Fraction
+pub mod Bits
+pub mod Promise
+pub mod Desk
