@@ -1,34 +1,46 @@
 -- The pair of doubles that is written for an instant, and the instant that a pair is read as: the calls. `Pairs` of Promise says exactly when each is given.
 -- Assumes nothing.
-use mathlib.Core.Bool.{Bool, false}
+use mathlib.Core.Bool.{Bool, false, cond}
 use mathlib.Core.List.{List, [], _∷_, _++_}
-use Prim.Native.Nat.{ℕ, _+_, _*_, _/_, _%_}
+use Prim.Native.Nat.{ℕ, _+_, _*_}
+use lib.Dec.{leb, ltb}
 use lib.IntN.{ℤ, pos}
 use lib.Ieee.{fin}
 use Rattle.answer.specs.declared.Refusal.{Refusal}
 use Rattle.answer.specs.declared.Refusal.the-variants.{Number as NUMBER, Range as RANGE}
 use Rattle.answer.specs.Refusals.{number, refusing}
 use Rattle.leap.specs.declared.Table.{Table}
-use Rattle.labels.specs.Seconds.{microOf}
+use Rattle.labels.specs.declared.Reading.{Reading}
+use Rattle.labels.specs.Labels.{Offsets}
+use Rattle.labels.specs.Seconds.{dayCount, microOfDay}
+use Rattle.labels.specs.Lengths.{daySeconds}
 use Rattle.stamp.specs.declared.InstantAnswer.{InstantAnswer}
-use Rattle.stamp.specs.declared.InstantAnswer.the-variants.{Refused as NoInstant}
-use Rattle.stamp.specs.Scales.{scaleOf, scaleTests}
-use Rattle.stamp.specs.Back.{inRange, stampAt, instantShowing}
+use Rattle.stamp.specs.declared.InstantAnswer.the-variants.{At, Refused as NoInstant}
+use Rattle.stamp.specs.Scales.{scaleOf, scaleTests, offsetsOf}
+use Rattle.stamp.specs.Back.{inRange, stampAt}
+use Rattle.stamp.specs.Days.{dayStart, lastDay, instantAfter}
+use Rattle.fraction.specs.Fraction.{fractionOf, isFraction, isHalf, nearestOf}
 use Rattle.julian.specs.declared.JulianDate.{JulianDate}
 use Rattle.julian.specs.declared.JulianAnswer.{JulianAnswer}
 use Rattle.julian.specs.declared.JulianAnswer.the-variants.{Dated, Refused}
-use Rattle.julian.specs.Fraction.{day, fractionOf, isFraction, microsOf}
-use Rattle.julian.specs.Midnight.{midnightOf, isMidnight, midnightInYears, dayNumber}
+use Rattle.julian.specs.Midnight.{midnightOf, midnightInYears, dayNumber}
+
+-- the microseconds of day d, counted from 1 January of year 0
+abbrev pub dayMicros : Offsets → ℕ → ℕ
+dayMicros o d = 1000000 * daySeconds o d
 
 -- ---- written
 
--- the pair of a microsecond
-abbrev pub pairOf : ℕ → JulianDate
-pairOf u = record { midnight = midnightOf (u / day); fraction = fractionOf (u % day) }
+-- the pair of a reading: the midnight of its day, and the microsecond of the day over that day's own length
+abbrev pub pairOf : Offsets → Reading → JulianDate
+pairOf o r = record { midnight = midnightOf (dayCount (r .label)); fraction = fractionOf (dayMicros o (dayCount (r .label))) (microOfDay r) }
 
 -- `write_julian`, without its mark; `stampAt` is the way back, which need not be believed
 unfoldable pub writeJulian : Table → ℤ → ℕ → JulianAnswer
-writeJulian t x k = refusing Refused (scaleTests t k ++ (inRange t (scaleOf k) x, RANGE) ∷ []) (Dated (pairOf (microOf (stampAt t (scaleOf k) x .reading))))
+writeJulian t x k =
+    refusing Refused
+    (scaleTests t k ++ (inRange t (scaleOf k) x, RANGE) ∷ [])
+    (Dated (pairOf (offsetsOf t (scaleOf k)) (stampAt t (scaleOf k) x .reading)))
 
 -- an answer in the scope's numbers: that of the refusal, 0 on success, and the pair, both zero on a refusal
 abbrev pub julianResults : JulianAnswer → ℕ × JulianDate
@@ -39,12 +51,29 @@ julianResults (Refused why) = (number why, record { midnight = fin false 0 (pos 
 
 -- what is asked of the pair itself, in this order
 abbrev pub pairTests : JulianDate → List (Bool × Refusal)
-pairTests p = (isMidnight (p .midnight), NUMBER) ∷ (isFraction (p .fraction), NUMBER) ∷ (midnightInYears (p .midnight), RANGE) ∷ []
+pairTests p = (isHalf (p .midnight), NUMBER) ∷ (isFraction (p .fraction), NUMBER) ∷ (midnightInYears (p .midnight), RANGE) ∷ []
 
--- the microsecond of a pair; a fraction that rounds to a whole day is the next midnight
-unfoldable pub microRead : JulianDate → ℕ
-microRead p = day * dayNumber (p .midnight) + microsOf (p .fraction)
+-- the microseconds that the fraction is nearest to, of that day's own length
+abbrev pub nearestIn : Offsets → JulianDate → ℕ
+nearestIn o p = nearestOf (dayMicros o (dayNumber (p .midnight))) (p .fraction)
 
--- `read_julian`, without its mark; after rounding, RANGE again and NOSECOND: they are asked of what the scale is to show, by `instantShowing`
+-- fewer than the day has are of that day, as many are the next midnight
+abbrev pub sameDay : Offsets → JulianDate → Bool
+sameDay o p = ltb (nearestIn o p) (dayMicros o (dayNumber (p .midnight)))
+
+-- the day that is read, and the microsecond of it
+unfoldable pub dayRead : Offsets → JulianDate → ℕ
+dayRead o p = cond (sameDay o p) (dayNumber (p .midnight)) (dayNumber (p .midnight) + 1)
+
+unfoldable pub microRead : Offsets → JulianDate → ℕ
+microRead o p = cond (sameDay o p) (nearestIn o p) 0
+
+-- all that is asked: RANGE of the midnight, and again after rounding
+abbrev pub readTests : Offsets → JulianDate → List (Bool × Refusal)
+readTests o p = pairTests p ++ (leb (dayRead o p) lastDay, RANGE) ∷ []
+
+-- `read_julian`, without its mark
 unfoldable pub readJulian : Table → ℕ → JulianDate → InstantAnswer
-readJulian t k p = refusing NoInstant (scaleTests t k ++ pairTests p) (instantShowing t (scaleOf k) (microRead p))
+readJulian t k p =
+    let o = offsetsOf t (scaleOf k) in
+    refusing NoInstant (scaleTests t k ++ readTests o p) (At (instantAfter (scaleOf k) (dayStart o (dayRead o p)) (microRead o p)))

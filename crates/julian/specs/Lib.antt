@@ -1,4 +1,3 @@
-pub mod Fraction
 pub mod Midnight
 pub mod Dates
 pub mod Marks

@@ -4,17 +4,16 @@
 use mathlib.Core.Bool.{Bool, false}
 use Prim.Native.Nat.{ℕ}
 use lib.IntN.{ℤ}
+use Rattle.calendar.specs.Days.{monthOfDay}
 use Rattle.leap.specs.declared.Table.{Table}
-use Rattle.labels.specs.Labels.{uniform}
-use Rattle.labels.specs.Back.{readingAt}
 use Rattle.stamp.specs.declared.MarkedInstant.{MarkedInstant}
-use Rattle.stamp.specs.Scales.{scaleOf}
-use Rattle.stamp.specs.Marks.{beyondReading, beyondAt, markedInstant}
+use Rattle.stamp.specs.Scales.{scaleOf, offsetsOf}
+use Rattle.stamp.specs.Marks.{beyondOn, beyondAt, markedInstant}
 use Rattle.julian.specs.declared.JulianDate.{JulianDate}
 use Rattle.julian.specs.declared.JulianAnswer.{JulianAnswer}
 use Rattle.julian.specs.declared.JulianAnswer.the-variants.{Dated, Refused}
 use Rattle.julian.specs.declared.MarkedPair.{MarkedPair}
-use Rattle.julian.specs.Dates.{writeJulian, microRead, readJulian}
+use Rattle.julian.specs.Dates.{writeJulian, dayRead, readJulian}
 
 abbrev pub markedPair : JulianAnswer → Bool → MarkedPair
 markedPair a b = record { answer = a; beyond = mark a }
@@ -27,6 +26,6 @@ markedPair a b = record { answer = a; beyond = mark a }
 abbrev pub writeJulianMarked : Table → ℤ → ℕ → MarkedPair
 writeJulianMarked t x k = markedPair (writeJulian t x k) (beyondAt t (scaleOf k) x)
 
--- `read_julian`: the reading that the pair shows
+-- `read_julian`: the month of the day that is read
 abbrev pub readJulianMarked : Table → ℕ → JulianDate → MarkedInstant
-readJulianMarked t k p = markedInstant (readJulian t k p) (beyondReading t (scaleOf k) (readingAt uniform (microRead p)))
+readJulianMarked t k p = markedInstant (readJulian t k p) (beyondOn (t .vouched) (scaleOf k) (monthOfDay (dayRead (offsetsOf t (scaleOf k)) p)))

@@ -1,26 +1,25 @@
--- Two-part Julian dates: which pair is written for an instant and which instant a pair is read as, exactly, both ways; 13 and 7 are said with the order of every call's tests. `microOf r` is the microsecond that the
--- reading r shows, counted from year 0 on days of 86,400 seconds, on UTC too: 23:59:60 shows the next day's first second.
+-- Two-part Julian dates: which pair is written for an instant and which instant a pair is read as, exactly, both ways; 13 and 7 are said with the order of every call's tests.
+-- `dayCount` and `microOfDay` are the day of a reading and the microsecond of that day, and `dayMicros` how many the day has: 23:59:60 is of the day that it ends.
 -- Assumes nothing.
 use mathlib.Core.Path.{_≡_}
 use mathlib.Core.Logic.{_↔_}
 use mathlib.Core.Bool.{true, false}
-use Prim.Native.Nat.{ℕ, _+_, _*_, _/_, _%_, _≤_, _<_}
-use lib.IntN.{ℤ, pos, _+ℤ_}
+use Prim.Native.Nat.{ℕ, _+_, _*_, _/_, _%_, _≤_}
+use lib.IntN.{ℤ, pos}
 use lib.Ieee.{Float, fin}
 use lib.Ieee.Exact.{HasValue}
-use lib.Ieee.Positive.{num, den}
 use Rattle.leap.specs.declared.Table.{Table}
 use Rattle.leap.specs.Leap.{accepted}
 use Rattle.labels.specs.declared.Reading.{Reading}
-use Rattle.labels.specs.Seconds.{microOf, lastReading}
-use Rattle.stamp.specs.declared.Scale.the-variants.{Utc}
-use Rattle.stamp.specs.Scales.{scaleOf}
+use Rattle.labels.specs.Labels.{Offsets}
+use Rattle.labels.specs.Seconds.{dayCount, microOfDay, microOf}
+use Rattle.stamp.specs.Scales.{scaleOf, offsetsOf}
 use Rattle.stamp.specs.Stamps.{instantResults}
 use Rattle.stamp.specs.Promise.{Reads}
+use Rattle.fraction.specs.Fraction.{fractionOf, isFraction, isHalf, nearestOf, Close, Nearest}
 use Rattle.julian.specs.declared.JulianDate.{JulianDate}
-use Rattle.julian.specs.Fraction.{day, isFraction, microsOf, Close}
-use Rattle.julian.specs.Midnight.{isMidnight, midnightInYears}
-use Rattle.julian.specs.Dates.{pairOf, writeJulian, julianResults, microRead, readJulian}
+use Rattle.julian.specs.Midnight.{midnightOf, midnightInYears, dayNumber}
+use Rattle.julian.specs.Dates.{dayMicros, pairOf, writeJulian, julianResults, nearestIn, dayRead, microRead, readJulian}
 
 -- `write_julian` gives the pair p for the instant x on scale number k, and `read_julian` the instant x for p
 abbrev pub Writes : Table → ℕ → ℤ → JulianDate → Type 0
@@ -33,48 +32,55 @@ ReadAs t k p x = instantResults (readJulian t k p) ≡ (0, x)
 abbrev pub ReadRefused : Table → ℕ → JulianDate → ℕ → Type 0
 ReadRefused t k p n = instantResults (readJulian t k p) .0 ≡ n
 
--- the pair of the microsecond u: the midnight is exactly its day and a half; the fraction is at least 0, below 1, and within one part in 2 ^ 54 of the exact one
-pub record Near (p : JulianDate) (u : ℕ) : Type 0 where
-  pub midnight-exact : HasValue (p .midnight) false (2 * (1721059 + u / day) + 1) 2
+abbrev pub offsetsOn : Table → ℕ → Offsets
+offsetsOn t k = offsetsOf t (scaleOf k)
+
+-- the pair of microsecond u of day d, which has so many: the midnight is exactly its day and a half; the fraction is at least 0, below 1, and within one part in 2 ^ 54 of the exact one
+pub record Near (p : JulianDate) (d u length : ℕ) : Type 0 where
+  pub midnight-exact : HasValue (p .midnight) false (2 * (1721059 + d) + 1) 2
   pub fraction-fine : isFraction (p .fraction) ≡ true
-  pub fraction-close : Close (p .fraction) (u % day)
+  pub fraction-close : Close length (p .fraction) u
 
 -- the pair is a midnight from 1972 to 9999 and a fraction
 pub record IsPair (p : JulianDate) : Type 0 where
-  pub is-midnight : isMidnight (p .midnight) ≡ true
+  pub is-midnight : isHalf (p .midnight) ≡ true
   pub is-fraction : isFraction (p .fraction) ≡ true
   pub in-years : midnightInYears (p .midnight) ≡ true
 
--- the instant x is that of a reading, not in an added second, that shows the pair's microsecond
+-- the instant x is that of a reading on the day and with the microsecond that the pair is read as
 pub record Stands (t : Table) (k : ℕ) (p : JulianDate) (x : ℤ) : Type 0 where
   pub reading : Reading
   pub reads : Reads t (scaleOf k) reading x
-  pub not-added : reading .label .second ≤ 59
-  pub shows : microOf reading ≡ microRead p
+  pub day-is : dayCount (reading .label) ≡ dayRead (offsetsOn t k) p
+  pub micro-is : microOfDay reading ≡ microRead (offsetsOn t k) p
 
--- u is the microsecond nearest to x days, a tie to the later
-abbrev pub Nearest : Float → ℕ → Type 0
-Nearest x u = (2 * (u * den x) ≤ 2 * (num x * day) + den x) × (2 * (num x * day) < 2 * (u * den x) + den x)
+-- ---- as it was while every day counted 86,400 seconds: the microsecond u from year 0 has this pair, and p is read as this microsecond
 
--- UTC shows a second 60 at the instant
-abbrev pub InAddedSecond : Table → ℤ → Type 0
-InAddedSecond t x = (r : Reading) × Reads t Utc r x × (r .label .second ≡ 60)
+abbrev pub day : ℕ
+day = 86400000000
+
+abbrev pub evenPair : ℕ → JulianDate
+evenPair u = record { midnight = midnightOf (u / day); fraction = fractionOf day (u % day) }
+
+abbrev pub evenMicro : JulianDate → ℕ
+evenMicro p = day * dayNumber (p .midnight) + nearestOf day (p .fraction)
 
 -- under one table
 pub record Pairs (t : Table) : Type 0 where
-  -- a pair is written exactly when a reading stands for the instant, and it is that of what the reading shows
-  pub written-exactly : (k : ℕ) (x : ℤ) (p : JulianDate) → Writes t k x p ↔ ((k ≤ 3) × (accepted t ≡ true) × ((r : Reading) × Reads t (scaleOf k) r x × (p ≡ pairOf (microOf r))))
-  pub written-near : (k : ℕ) (x : ℤ) (p : JulianDate) (r : Reading) → Writes t k x p → Reads t (scaleOf k) r x → Near p (microOf r)
-  -- a pair is read exactly when it is one and its microsecond is shown
+  -- a pair is written exactly when a reading stands for the instant, and it is that of the reading's day and of its microsecond over the day's own length
+  pub written-exactly : (k : ℕ) (x : ℤ) (p : JulianDate) → Writes t k x p ↔ ((k ≤ 3) × (accepted t ≡ true) × ((r : Reading) × Reads t (scaleOf k) r x × (p ≡ pairOf (offsetsOn t k) r)))
+  pub written-near : (k : ℕ) (x : ℤ) (p : JulianDate) (r : Reading) → Writes t k x p → Reads t (scaleOf k) r x → Near p (dayCount (r .label)) (microOfDay r) (dayMicros (offsetsOn t k) (dayCount (r .label)))
+  -- a pair is read exactly when it is one and a reading stands there
   pub read-exactly : (k : ℕ) (p : JulianDate) (x : ℤ) → ReadAs t k p x ↔ ((k ≤ 3) × (accepted t ≡ true) × IsPair p × Stands t k p x)
-  -- NOSECOND, 6: it is in these years, and no reading shows it
-  pub read-no-second : (k : ℕ) (p : JulianDate) → ReadRefused t k p 6 ↔ ((k ≤ 3) × (accepted t ≡ true) × IsPair p × (microRead p ≤ microOf lastReading) × ((x : ℤ) → Stands t k p x → ⊥))
-  pub read-nearest : (x : Float) → Nearest x (microsOf x)
+  -- the microseconds after the midnight are those nearest to the double's exact value, a tie to the later
+  pub read-nearest : (k : ℕ) (p : JulianDate) → Nearest (dayMicros (offsetsOn t k) (dayNumber (p .midnight))) (p .fraction) (nearestIn (offsetsOn t k) p)
+  -- no pair is refused with NOSECOND, 6
+  pub no-six : (k : ℕ) (p : JulianDate) → ReadRefused t k p 6 → ⊥
   -- minus zero is read as zero
   pub minus-zero : (k : ℕ) (m : Float) → readJulian t k (record { midnight = m; fraction = fin true 0 (pos 0) }) ≡ readJulian t k (record { midnight = m; fraction = fin false 0 (pos 0) })
-  -- on the scales 1 to 3 every instant comes back exactly, and on UTC every one outside added seconds
-  pub uniform-comes-back : (x : ℤ) (k : ℕ) (p : JulianDate) → 1 ≤ k → Writes t k x p → ReadAs t k p x
-  pub utc-comes-back : (x : ℤ) (p : JulianDate) → (InAddedSecond t x → ⊥) → Writes t 0 x p → ReadAs t 0 p x
-  -- an instant in an added second shares its pair with the instant one second later, and the pair is read as that
-  pub added-second-shares : (x : ℤ) (p : JulianDate) → InAddedSecond t x → Writes t 0 x p → Writes t 0 (x +ℤ pos 1000000) p
-  pub added-second-later : (x : ℤ) (p : JulianDate) → InAddedSecond t x → Writes t 0 x p → ReadAs t 0 p (x +ℤ pos 1000000)
+  -- on every scale every instant comes back exactly, and no two share a pair
+  pub comes-back : (k : ℕ) (x : ℤ) (p : JulianDate) → Writes t k x p → ReadAs t k p x
+  pub none-shared : (k : ℕ) (x y : ℤ) (p : JulianDate) → Writes t k x p → Writes t k y p → x ≡ y
+  -- on the scales 1 to 3 both are as they were
+  pub uniform-written : (k : ℕ) (x : ℤ) (p : JulianDate) → 1 ≤ k → Writes t k x p ↔ ((k ≤ 3) × (accepted t ≡ true) × ((r : Reading) × Reads t (scaleOf k) r x × (p ≡ evenPair (microOf r))))
+  pub uniform-read : (k : ℕ) (p : JulianDate) (x : ℤ) → 1 ≤ k → ReadAs t k p x ↔ ((k ≤ 3) × (accepted t ≡ true) × IsPair p × ((r : Reading) × Reads t (scaleOf k) r x × (microOf r ≡ evenMicro p)))
