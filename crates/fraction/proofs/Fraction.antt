@@ -1,13 +1,13 @@
 -- Laws of the definitions, for their callers.
 -- To use: `half-is` where a value is known, `below-one` and `nearest-at` to pass to `nearestOf`, then `whole-most` and `is-nearest`.
 -- Assumes nothing.
-use mathlib.Core.Path.{_≡_, refl, sym, ap, _∙_, subst}
-use mathlib.Core.Bool.{Bool, true, false, not, _&&_, true≢false}
+use mathlib.Core.Path.{_≡_, refl, sym, ap, _∙_}
+use mathlib.Core.Bool.{true, false, not, _&&_, true≢false}
 use Prim.Native.Nat.{ℕ, _+_, _-_, _*_, _/_, _%_, _^_, _≤_, _<_}
 use native.Mathlib.Nat.{mod-lt, le-of-lt, suc-mul, mul-comm, mul-assoc, mul-left-comm, mul-le-mul-right, add-mul, one-mul, div-add-mod', div-lt-iff-lt-mul, le-of-suc-le-suc, mul-add-mod-self-right, mod-eq-of-lt}
 use native.Mathlib.Omega.{arith}
 use lib.IntN.{pos}
-use lib.Dec.{T, ltb, eqb, ltb→lt, eqb→eq}
+use lib.Dec.{ltb, eqb}
 use lib.Ieee.{Float, nan, inf, fin, up, down, le, lt, eq}
 use lib.Ieee.Fits.{down-pos}
 use lib.Ieee.Scale.{finite}

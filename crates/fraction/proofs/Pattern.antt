@@ -1,7 +1,7 @@
 -- What a double's bit pattern says of its size num / den: the digits, times 2 to the exponent's field less one, in units of 2 ^ -1074.
 -- Assumes nothing.
 use mathlib.Core.Path.{_≡_, refl, sym, ap, _∙_, subst}
-use mathlib.Core.Bool.{Bool, true, false, cond}
+use mathlib.Core.Bool.{Bool, true, false}
 use Prim.Native.Nat.{ℕ, zero, suc, _+_, _-_, _*_, _/_, _%_, _^_, _≤_, _<_}
 use native.Mathlib.Nat.{mod-lt, add-comm, mul-assoc, mul-comm, mul-right-comm, eq-of-mul-eq-mul-right, lt-irrefl, lt-of-lt-of-le, mul-le-mul, mul-le-mul-right, mul-lt-mul-of-pos-right, lt-of-mul-lt-mul-right, le-of-mul-le-mul-right}
 use native.Mathlib.Omega.{arith}

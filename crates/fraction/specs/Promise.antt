@@ -1,4 +1,4 @@
--- What is promised of the parts of a whole. `parts` of proofs/Division.antt keeps it for every whole up to 2 ^ 52.
+-- What is promised of the parts of a whole. `parts` of proofs/Promise.antt keeps it for every whole up to 2 ^ 52.
 -- Assumes nothing.
 use mathlib.Core.Path.{_≡_}
 use mathlib.Core.Bool.{true}
