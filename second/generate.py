@@ -1125,6 +1125,8 @@ def worked_on_the_night_desk():
         ('TDT 1972-01-01T00:00:00 is accepted', BULLETIN, text_line(TDT, '1972-01-01T00:00:00')),
         ('and written on TAI: refusal 7', BULLETIN, call('write_text', ends_of_scale(BULLETIN, TDT)[0], 0, TAI, 0, 19)),
         ('instant 0, TAI Julian date is 2451544.5 and 0.5', BULLETIN, 'write_julian 0 1'),
+        ('B, 536,500,836.25, UTC Julian date is 2457753.5 and 3fefffedcbb7564f', BULLETIN, 'write_julian 536500836250000 0'),
+        ('N, UTC Julian date 2441498.5 and 1/128 gives -868,016,915.007812', N, 'read_julian 0 4142a08d40000000 3f80000000000000'),
         ('block 03 0C 0C is T', BULLETIN, 'read_block 030C0C'),
         ('block 02 0D is N', BULLETIN, 'read_block 020D'),
         ('the clock starts', BULLETIN, 'start'),

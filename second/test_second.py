@@ -106,6 +106,8 @@ def test_worked_on_the_night_desk():
     expect_text(TDT, '1972-01-01T00:00:00', -883_656_032_184_000, '1972 1 1 0 0 0 0')
     expect('write_text -883656032184000 0 1 0 19', '7 0 ' + 'a5' * 19)
     expect('write_julian 0 1', f'0 {bits(2451544.5)} {bits(0.5)}')
+    expect('write_julian 536500836250000 0', f'0 {bits(2457753.5)} 3fefffedcbb7564f')
+    expect_julian(2441498.5, 1 / 128, '0 -868016915007812', UTC, N_LINE)
 
 
 def test_table_and_clock():
