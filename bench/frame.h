@@ -26,7 +26,7 @@ enum { INPUTS = 1024, ROUNDS = 15 };
 static int fields[INPUTS][7];
 static int on_leap_day[INPUTS];
 static char texts[INPUTS][28];
-/* what they should give: TAI microseconds from 2000-01-01 12:00:00, and the Julian pair, in which every UTC day counts 86,400 seconds */
+/* what they should give: TAI microseconds from 2000-01-01 12:00:00, and the Julian pair, in which every UTC day counts its own length */
 static int64_t instants[INPUTS];
 static double midnights[INPUTS], fractions[INPUTS];
 /* what a peer gave */
@@ -86,7 +86,7 @@ static inline void make_inputs(void)
         int64_t days = days_from_2000(f[0], f[1], f[2]), micros = (f[3] * 3600LL + f[4] * 60 + f[5]) * 1000000 + f[6];
         instants[i] = days * 86400000000 - 43200000000 + micros + tai_less_utc(f[0], f[1]) * 1000000LL;
         midnights[i] = 2451544.5 + (double)days;
-        fractions[i] = (double)micros / 86400000000.0;
+        fractions[i] = (double)micros / (on_leap_day[i] ? 86401000000.0 : 86400000000.0);
     }
 }
 

@@ -1,6 +1,7 @@
-/* Each call of the header, once with an answer and once refused (mundreff_bulletin_c is never refused); texts with a final zero, a tick in
-   place, buffers of no bytes, the month that a table is vouched for with the marks of each call, the lengths that are always enough and the
-   names of the refusals. It is C and C++. It says where an answer is another than the header's, and ends with status 1. */
+/* Each call of the header, once with an answer and once refused (mundreff_bulletin_c is never refused); texts with a final zero, Julian dates of
+   UTC days of each length, a tick in place, buffers of no bytes, the month that a table is vouched for with the marks of each call, the lengths
+   that are always enough and the names of the refusals. It is C and C++. It says where an answer is another than the header's, and ends with
+   status 1. */
 #include <stdio.h>
 #include <string.h>
 #include "mundreff.h"
@@ -178,6 +179,50 @@ static void pairs(void)
     expect("write_julian refused", mundreff_write_julian(&table, INT64_MIN, MUNDREFF_TAI, &midnight, &fraction, marked()) == MUNDREFF_RANGE && midnight == 0 && fraction == 0 && marks == 0);
 }
 
+/* a UTC instant, its pair and back */
+static int is_pair(const mundreff_table *t, int64_t at, double of_midnight, double of_fraction)
+{
+    double midnight = 9, fraction = 9;
+    int64_t instant = 9;
+    int all = mundreff_write_julian(t, at, MUNDREFF_UTC, &midnight, &fraction, marked()) == MUNDREFF_OK && midnight == of_midnight && fraction == of_fraction && marks == 0;
+    all &= mundreff_read_julian(t, MUNDREFF_UTC, of_midnight, of_fraction, &instant, marked()) == MUNDREFF_OK && instant == at && marks == 0;
+    return all;
+}
+
+static int is_read(const mundreff_table *t, double midnight, double fraction, int64_t at)
+{
+    int64_t instant = 9;
+    return mundreff_read_julian(t, MUNDREFF_UTC, midnight, fraction, &instant, marked()) == MUNDREFF_OK && instant == at && marks == 0;
+}
+
+static int is_no_pair(const mundreff_table *t, double midnight, double fraction, uint32_t no)
+{
+    int64_t instant = 9;
+    return mundreff_read_julian(t, MUNDREFF_UTC, midnight, fraction, &instant, marked()) == no && instant == 0 && marks == 0;
+}
+
+/* On UTC a day counts the seconds that the table gives it: 31 December 2016 has 86,401, and 30 June 1972 86,399 where its last is taken out. */
+static void utc_pairs(void)
+{
+    const uint8_t taken_out[2] = {0x02, 0x0d};
+    const double longer = 86401000000.0, shorter = 86399000000.0, below_one = 0.9999999999999999;
+    mundreff_table short_june;
+    size_t place = 9;
+    expect("the pair of 12:00:00 on a longer day", is_pair(&table, added - 43200000000, 2457753.5, 43200000000.0 / longer));
+    expect("the pair of 23:59:60.25", is_pair(&table, added + 250000, 2457753.5, 86400250000.0 / longer));
+    expect("one second later it is another", is_pair(&table, added + 1250000, 2457754.5, 250000.0 / 86400000000.0));
+    expect("one second before it too", is_pair(&table, added - 750000, 2457753.5, 86399250000.0 / longer));
+    expect("the longer day's last microsecond", is_pair(&table, added + 999999, 2457753.5, 86400999999.0 / longer));
+    expect("a tie is read as the later microsecond", is_read(&table, 2457753.5, 1 / 128.0, added - 86400000000 + 675007813));
+    expect("what rounds up to the day's length is the next midnight", is_read(&table, 2457753.5, below_one, added + 1000000));
+    expect("a table with a second taken out", mundreff_read_block(taken_out, 2, &place, &short_june) == MUNDREFF_OK);
+    expect("the shorter day's last microsecond", is_pair(&short_june, -867931191000001, 2441498.5, 86398999999.0 / shorter));
+    expect("its next is the next midnight", is_pair(&short_june, -867931191000000, 2441499.5, 0));
+    expect("a fraction names no second that is taken out", is_read(&short_june, 2441498.5, 86399500000.0 / 86400000000.0, -867931191499994));
+    expect("a fraction of 1 is refused", is_no_pair(&table, 2457753.5, 1, MUNDREFF_NUMBER) && is_no_pair(&short_june, 2441498.5, 1, MUNDREFF_NUMBER));
+    expect("the end of 9999 is refused", is_no_pair(&table, 5373483.5, below_one, MUNDREFF_RANGE) && is_no_pair(&short_june, 5373484.5, 0, MUNDREFF_RANGE));
+}
+
 static void ticks(void)
 {
     const mundreff_label first = {1972, 1, 1, 0, 0, 0}, eve = {2016, 12, 31, 23, 59, 59}, none = {2015, 12, 31, 23, 59, 60};
@@ -208,6 +253,7 @@ typedef struct {
 enum { JANUARY_2017 = MUNDREFF_VOUCHED(2017, 1) };
 static const moment moments[] = {
     {{MUNDREFF_UTC, 2016, 12, 30, 12, 0, 0, 0}, 536371236000000, "2016-12-30T12:00:00.000000", 2457752.5, 0.5, 0},
+    {{MUNDREFF_UTC, 2016, 12, 31, 23, 59, 60, 250000}, 536500836250000, "2016-12-31T23:59:60.250000", 2457753.5, 86400250000.0 / 86401000000.0, 0},
     {{MUNDREFF_UTC, 2017, 1, 31, 23, 59, 59, 999999}, 539179236999999, "2017-01-31T23:59:59.999999", 2457784.5, 86399999999.0 / 86400000000.0, 0},
     {{MUNDREFF_UTC, 2017, 2, 1, 0, 0, 0, 0}, 539179237000000, "2017-02-01T00:00:00.000000", 2457785.5, 0, MUNDREFF_BEYOND},
     {{MUNDREFF_UTC, 9999, 12, 31, 12, 0, 0, 0}, 252455529637000000, "9999-12-31T12:00:00.000000", 5373483.5, 0.5, MUNDREFF_BEYOND},
@@ -289,7 +335,7 @@ static void months_given(void)
 
 static void marks_given(void)
 {
-    const int64_t february = moments[2].instant;
+    const int64_t february = moments[3].instant;
     const mundreff_label first = {2017, 2, 1, 0, 0, 0}, end = {9999, 12, 31, 23, 59, 59};
     mundreff_label label = {2017, 1, 31, 23, 59, 58}, next;
     mundreff_table given = table;
@@ -393,6 +439,7 @@ int main(void)
     texts();
     strings();
     pairs();
+    utc_pairs();
     ticks();
     months_given();
     marks_given();

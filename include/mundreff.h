@@ -192,18 +192,21 @@ MUNDREFF_CHECKED static inline uint32_t mundreff_write_string(const mundreff_tab
     return no;
 }
 
-/* The two-part Julian date of an instant: a midnight that ends in .5, and the fraction of a day of 86,400 seconds. On UTC an added second has
-   the pair of the second after it, so reading it back gives an instant one second later; every other instant comes back exactly.
-   On a UTC day with an added or a taken-out second these are not the quasi-Julian dates of ERFA and SOFA: here every UTC day counts 86,400
-   seconds, there it counts its own length. On every other day, and on the uniform scales, the two agree. A coming version changes that.
+/* The two-part Julian date of an instant: a midnight that ends in .5, and how much of that day has gone by, the microsecond of the day divided
+   by the day's microseconds. On the uniform scales a day has 86,400 seconds. On UTC it has as many as the table gives it, 86,399, 86,400 or
+   86,401: these are the quasi-Julian dates of SOFA and ERFA. So 23:59:60.25 has its own day's midnight and a fraction just below 1, no two
+   instants of a scale share a pair, and every one comes back exactly.
+   The midnights are ERFA's to the last bit. The fractions are rounded once here and more often there, and may be one unit in the last place apart,
+   some ten picoseconds. Older versions counted 86,400 seconds on every UTC day: what they wrote for a day with an added or a taken-out second is
+   read up to a second off here.
    Refusals: ASK, TABLE, RANGE. */
 MUNDREFF_CHECKED uint32_t mundreff_write_julian(const mundreff_table *table, int64_t instant, uint32_t scale, double *midnight, double *fraction, uint32_t *marks);
 
-/* The instant of a two-part Julian date; on a UTC day with an added or a taken-out second it is not ERFA's, see above. The fraction is first
-   rounded to a microsecond of a day of 86,400 seconds, a tie to the later, and the result is judged after that: a fraction that rounds to a
-   whole day is the next midnight, on UTC even where an added second lies between; one that rounds into a taken-out second is NOSECOND, and
-   past 9999 RANGE.
-   Refusals: ASK, TABLE, NUMBER, RANGE, NOSECOND. */
+/* The instant of a two-part Julian date. The fraction's exact value is taken to the nearest microsecond of that day, which on UTC has the length
+   that the table gives it, a tie to the later. What rounds up to the day's whole length is the next midnight, on UTC behind an added second too,
+   and at the end of 9999 RANGE. A fraction from 0 to below 1 never meets a second that the table lacks, so there is no NOSECOND here. Minus zero is
+   read as zero.
+   Refusals: ASK, TABLE, NUMBER, RANGE. */
 MUNDREFF_CHECKED uint32_t mundreff_read_julian(const mundreff_table *table, uint32_t scale, double midnight, double fraction, int64_t *instant, uint32_t *marks);
 
 /* The label at which the plain clock starts: 1972-01-01 00:00:00. It is never BEYOND: no month that can be given lies before it.

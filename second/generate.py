@@ -18,6 +18,7 @@ The second program works out which instants, labels and bytes lie at an edge;
 the answers to the lines are no concern of this file.
 """
 
+import math
 import random
 import struct
 import sys
@@ -809,24 +810,46 @@ FRACTIONS_OF_KINDS = (
 )
 
 
-def tie(odd):
-    """The fractions of a day that lie exactly between two microseconds are odd parts of 2^14."""
-    return odd / 2**14
+LONGER_DAY, SHORTER_DAY = DAY + SECOND, DAY - SECOND  # UTC days with a second added and taken out
 
 
-def fractions_beside_half(microsecond):
+def parts_of_ties(length):
+    """The fractions of a day that lie exactly between two microseconds are odd parts of this power of two."""
+    return 2**14 if length == DAY else 2**7
+
+
+def tie(odd, length=DAY):
+    return odd / parts_of_ties(length)
+
+
+def fractions_beside_half(microsecond, length=DAY):
     """The doubles about the half after this microsecond."""
-    middle = (2 * microsecond + 1) / (2 * DAY)
+    middle = (2 * microsecond + 1) / (2 * length)
     return [beside(middle, steps) for steps in (-2, -1, 0, 1, 2)]
 
 
-def fractions_of_microsecond(microsecond):
-    exact = microsecond / DAY
+def fractions_of_microsecond(microsecond, length=DAY):
+    exact = microsecond / length
     return [beside(exact, steps) for steps in (-1, 0, 1)]
 
 
-MICROSECONDS_OF_DAY = (0, 1, 2, DAY // 2 - 1, DAY // 2, 86_398_000_000, 86_398_999_998, 86_398_999_999, 86_399_000_000,
-                       86_399_000_001, DAY - 2, DAY - 1)
+def is_rounded_otherwise(fraction, length):
+    """A product of doubles leads to another microsecond than the exact one."""
+    return math.floor(fraction * length + 0.5) != second.nearest_microsecond(fraction, length)
+
+
+def fractions_rounded_otherwise(dice, length, count):
+    """The first that the dice find, all beside a half."""
+    found = []
+    while len(found) < count:
+        found += [fraction for fraction in fractions_beside_half(dice.below(length), length) if is_rounded_otherwise(fraction, length)]
+    return found[:count]
+
+
+def microseconds_of_day(length):
+    """The first, the middle, and those about the last two seconds."""
+    last = length - SECOND
+    return 0, 1, 2, length // 2 - 1, length // 2, last - SECOND, last - 2, last - 1, last, last + 1, length - 2, length - 1
 
 
 def month_at_edge(dice, table):
@@ -836,21 +859,30 @@ def month_at_edge(dice, table):
     return dice.pick(list(table.steps) or [6])
 
 
-def pair_at_edge(dice, table):
+def length_at(table, scale, midnight):
+    """The microseconds of the day that begins so; 86,400 seconds where it is no day of the scale."""
+    if not table.is_good or not FIRST_MIDNIGHT <= midnight <= LAST_MIDNIGHT:
+        return DAY
+    return second.length_of_day(table, scale, int(midnight - FIRST_MIDNIGHT))
+
+
+def pair_at_edge(dice, table, scale):
     """On the day before such a month, about its last two seconds."""
-    month = month_at_edge(dice, table)
-    boundary = dice.pick((86_398, 86_399, 86_399, 86_400)) * SECOND
+    midnight = FIRST_MIDNIGHT + second.FIRST_DAY[month_at_edge(dice, table)] - 1
+    length = length_at(table, scale, midnight)
+    boundary = length - dice.pick((2, 1, 1, 0)) * SECOND
     if dice.chance(0.5):
-        fraction = dice.pick(fractions_beside_half(boundary - 1) + fractions_of_microsecond(boundary))
+        fraction = dice.pick(fractions_beside_half(boundary - 1, length) + fractions_of_microsecond(boundary, length))
     else:
-        fraction = fractions_of_microsecond(boundary + dice.between(-SECOND, SECOND))[1]
-    return FIRST_MIDNIGHT + second.FIRST_DAY[month] - 1, min(fraction, beside(1.0, -1))
+        fraction = fractions_of_microsecond(boundary + dice.between(-SECOND, SECOND), length)[1]
+    return midnight, min(fraction, beside(1.0, -1))
 
 
-def random_pair(dice, table):
+def random_pair(dice, table, scale):
     if table.is_good and dice.chance(0.3):
-        return pair_at_edge(dice, table)
-    return random_midnight(dice, table), random_fraction(dice)
+        return pair_at_edge(dice, table, scale)
+    midnight = random_midnight(dice, table)
+    return midnight, random_fraction(dice, length_at(table, scale, midnight))
 
 
 def random_midnight(dice, table):
@@ -869,17 +901,17 @@ def random_midnight(dice, table):
     return FIRST_MIDNIGHT + dice.below(second.END_OF_DAYS)
 
 
-def random_fraction(dice):
+def random_fraction(dice, length):
     kind = dice.weighted(((20, 'microsecond'), (20, 'half'), (15, 'tie'), (15, 'edge'), (15, 'list'), (12, 'any'), (3, 'bits')))
-    microsecond = dice.pick(MICROSECONDS_OF_DAY) if dice.chance(0.5) else dice.below(DAY)
+    microsecond = dice.pick(microseconds_of_day(length)) if dice.chance(0.5) else dice.below(length)
     if kind == 'microsecond':
-        return dice.pick(fractions_of_microsecond(microsecond))
+        return dice.pick(fractions_of_microsecond(microsecond, length))
     if kind == 'half':
-        return dice.pick(fractions_beside_half(microsecond))
+        return dice.pick(fractions_beside_half(microsecond, length))
     if kind == 'tie':
-        return beside(tie(2 * dice.below(2**13) + 1), dice.pick((-1, 0, 0, 1)))
+        return beside(tie(2 * dice.below(parts_of_ties(length) // 2) + 1, length), dice.pick((-1, 0, 0, 1)))
     if kind == 'edge':
-        return beside(dice.pick((86_399 / DAY_SECONDS, 86_398 / DAY_SECONDS, 1.0, 0.5)), dice.between(-40_000, 40_000))
+        return beside(dice.pick(((length - SECOND) / length, (length - 2 * SECOND) / length, 1.0, 0.5)), dice.between(-40_000, 40_000))
     if kind == 'list':
         return dice.pick(FRACTIONS_OF_KINDS)
     return dice.random() if kind == 'any' else double_of_bits(dice.bits64())
@@ -1021,7 +1053,8 @@ class Lines:
         return call('write_julian', random_instant(self.dice, self.table), random_scale(self.dice))
 
     def line_read_julian(self):
-        return call('read_julian', random_scale(self.dice), *map(bits_word, random_pair(self.dice, self.table)))
+        scale = random_scale(self.dice)
+        return call('read_julian', scale, *map(bits_word, random_pair(self.dice, self.table, scale)))
 
     def line_start(self):
         return 'start'
@@ -1092,6 +1125,8 @@ def worked_on_the_night_desk():
         ('TDT 1972-01-01T00:00:00 is accepted', BULLETIN, text_line(TDT, '1972-01-01T00:00:00')),
         ('and written on TAI: refusal 7', BULLETIN, call('write_text', ends_of_scale(BULLETIN, TDT)[0], 0, TAI, 0, 19)),
         ('instant 0, TAI Julian date is 2451544.5 and 0.5', BULLETIN, 'write_julian 0 1'),
+        ('B, 536,500,836.25, UTC Julian date is 2457753.5 and 3fefffedcbb7564f', BULLETIN, 'write_julian 536500836250000 0'),
+        ('N, UTC Julian date 2441498.5 and 1/128 gives -868,016,915.007812', N, 'read_julian 0 4142a08d40000000 3f80000000000000'),
         ('block 03 0C 0C is T', BULLETIN, 'read_block 030C0C'),
         ('block 02 0D is N', BULLETIN, 'read_block 020D'),
         ('the clock starts', BULLETIN, 'start'),
@@ -1335,7 +1370,7 @@ def doubles():
     for fraction in FRACTIONS_OF_KINDS:
         for midnight in (taken_out, LAST_MIDNIGHT, -0.5, NOT_FINITE[0]):
             yield call('read_julian', UTC, bits_word(midnight), bits_word(fraction))
-    for microsecond in MICROSECONDS_OF_DAY:
+    for microsecond in microseconds_of_day(DAY):
         for fraction in fractions_beside_half(microsecond) + fractions_of_microsecond(microsecond):
             for scale, midnight in ((UTC, taken_out), (UTC, LAST_MIDNIGHT), (GPS, LAST_MIDNIGHT)):
                 yield call('read_julian', scale, bits_word(midnight), bits_word(fraction))
@@ -1348,6 +1383,104 @@ def doubles():
     added = second.instant_of(BULLETIN, UTC, Label(2016, 12, 31, 23, 59, 60), 250_000)
     for instant in (added - SECOND, added, added + SECOND):
         yield from lines_of_instant(BULLETIN, instant, scales=(UTC,), digits=2)
+
+
+def pair_line(scale, midnight, fraction):
+    return call('read_julian', scale, bits_word(midnight), bits_word(fraction))
+
+
+def last_midnight_before(month):
+    return FIRST_MIDNIGHT + second.FIRST_DAY[month] - 1
+
+
+def rows_of_quasi_julian_dates():
+    """The added second at the end of 2016, ties, and a fraction that a product of doubles takes for a microsecond more."""
+    yield table_line(BULLETIN)
+    for instant in (536_457_636_000_000, 536_500_836_250_000, 536_500_836_999_999, 536_500_837_250_000):
+        yield from (call('write_julian', instant, UTC), pair_line(UTC, *second.write_julian(BULLETIN, instant, UTC)))
+    for fraction in (1 / 128, float.fromhex('0x1.f8613e657d96fp-1')):
+        yield pair_line(UTC, 2457753.5, fraction)
+    yield from (table_line(N), pair_line(UTC, 2441498.5, 1 / 128))
+
+
+def pairs_out_and_back(table, month, microseconds):
+    """On the day before the month, by its microseconds."""
+    day = Label(*day_before_month(month), 0, 0, 0)
+    for microsecond in microseconds:
+        instant = second.instant_of(table, UTC, day, 0) + microsecond
+        yield from (call('write_julian', instant, UTC), pair_line(UTC, *second.write_julian(table, instant, UTC)))
+
+
+def uneven_day(table, month):
+    """The day before a step, of its own length: its ends and those of its neighbours, ties, and what rounds up to its end."""
+    midnight = last_midnight_before(month)
+    length = length_at(table, UTC, midnight)
+    last = length - SECOND
+    yield from pairs_out_and_back(table, month, (-1, 0, 1, length // 2, last - 1, last, last + 250_000, length - 1, length))
+    for microsecond in (last, length - 1):
+        for fraction in fractions_of_microsecond(microsecond, length)[::2]:
+            yield pair_line(UTC, midnight, fraction)
+    for odd in (1, 63, 65, 127):
+        for steps in (-1, 0, 1):
+            yield pair_line(UTC, midnight, beside(tie(odd, length), steps))
+    for fraction in (tie(1), tie(16_383), *fractions_beside_half(length - 1, length), beside(1.0, -1),
+                     *fractions_rounded_otherwise(Dice(month), length, 4)):
+        yield pair_line(UTC, midnight, fraction)
+    for fraction in (tie(1, length), beside(1.0, -1)):
+        yield pair_line(TAI, midnight, fraction)
+
+
+def uneven_days():
+    down_and_up = table_of_steps(neighbours(1, 63), [STEPS['down and up'](i) for i in range(63)])
+    up_and_down = table_of_steps(neighbours(LAST_MONTH - 62, 63), [STEPS['up and down'](i) for i in range(63)])
+    for heading, table, months in (
+            ('B', BULLETIN, (6, 540)), ('N', N, (6,)), ('neighbouring months from the first', down_and_up, (1, 2, 3)),
+            ('neighbouring months to the last', up_and_down, (LAST_MONTH - 1, LAST_MONTH)),
+            ('a second taken out on 30 November 9999', table_of_one_step(LAST_MONTH, -1), (LAST_MONTH,))):
+        yield '# days before a step: ' + heading
+        yield table_line(table)
+        for month in months:
+            yield from uneven_day(table, month)
+        yield from (pair_line(UTC, LAST_MIDNIGHT, fraction) for fraction in (*fractions_beside_half(DAY - 1), beside(1.0, -1)))
+    yield '# each added second of B'
+    yield table_line(BULLETIN)
+    for month in BULLETIN.steps:
+        yield from pairs_out_and_back(BULLETIN, month, (DAY + 250_000, LONGER_DAY - 1))
+
+
+def even_days():
+    """UTC days beside those with a step have 86,400 seconds, and a table's last day too."""
+    for table, month in ((BULLETIN, 540), (N, 6)):
+        yield table_line(table)
+        for midnight in (last_midnight_before(month) - 1, last_midnight_before(month) + 1):
+            for odd in (1, 3, 8_191, 8_193, 16_383):
+                for steps in (-1, 0, 1):
+                    yield pair_line(UTC, midnight, beside(tie(odd), steps))
+            for fraction in (tie(1, LONGER_DAY), beside(1.0, -1), *fractions_rounded_otherwise(Dice(month), DAY, 4)):
+                for scale in (UTC, GPS):
+                    yield pair_line(scale, midnight, fraction)
+
+
+def refused_pairs():
+    """8, 11, 13 and 7, one before the other, and no 6: every microsecond of a day is one of the table's."""
+    for table in (BULLETIN, N, changed(N, count=0)):
+        yield table_line(table)
+        for scale in (UTC, 4):
+            for midnight, fraction in (
+                    (NOT_FINITE[2], 1.0), (2441499.0, 0.5), (2441498.5, 1.0), (2441498.5, double_of_bits(1 << 63 | 1)),
+                    (2441498.5, NOT_FINITE[2]), (FIRST_MIDNIGHT - 1, 1.0), (FIRST_MIDNIGHT - 1, beside(1.0, -1)),
+                    (LAST_MIDNIGHT + 1, -0.0), (LAST_MIDNIGHT, beside(1.0, -1)), (2441498.5, beside(1.0, -1)), (2441498.5, -0.0)):
+                yield pair_line(scale, midnight, fraction)
+
+
+def quasi_julian_dates():
+    yield from rows_of_quasi_julian_dates()
+    yield from uneven_days()
+    yield '# days of 86,400 seconds'
+    yield from even_days()
+    yield '# refused'
+    yield from refused_pairs()
+    yield table_line(BULLETIN)
 
 
 def rows_of_vouched_month():
@@ -1400,7 +1533,7 @@ def ends_of_vouched_months():
 
 
 def julian_dates_of_vouched_month():
-    """The vouched month's last day rounds into the next month; the taken-out second before N's last entry stays 6."""
+    """The vouched month's last day rounds into the next month, beyond; the day before a step into the last entry's, not beyond."""
     for table, month in ((BULLETIN, 541), (N, 7), (N, LAST_MONTH + 1)):
         yield from (table_line(table), vouch_line(month))
         last_day = FIRST_MIDNIGHT + second.FIRST_DAY[month] - 1
@@ -1410,6 +1543,12 @@ def julian_dates_of_vouched_month():
         yield call('read_julian', UTC, bits_word(last_day + 1), bits_word(0.0))
     for microsecond in (DAY - SECOND - 1, DAY - SECOND, DAY - 1):
         yield call('read_julian', UTC, bits_word(2441498.5), bits_word(microsecond / DAY))
+    for table, month in ((BULLETIN, 540), (N, 6)):
+        yield from (table_line(table), vouch_line(month + 1))
+        length = length_at(table, UTC, last_midnight_before(month))
+        for fraction in fractions_beside_half(length - 1, length)[1:] + [beside(1.0, -1)]:
+            yield pair_line(UTC, last_midnight_before(month), fraction)
+        yield from pairs_out_and_back(table, month, (length - 1, length))
 
 
 def years_about_vouched_month():
@@ -1514,6 +1653,7 @@ SECTIONS = (
     ('Texts wrong at each position', texts),
     ('Buffers', buffers),
     ('Doubles', doubles),
+    ('Julian dates of UTC days of each length', quasi_julian_dates),
     ('The vouched month', vouched_month),
     ('Lines that are no calls', protocol),
 )

@@ -683,21 +683,28 @@ MIDNIGHT_OF_DAY_0 = 2441317.5  # 1972-01-01
 MIDNIGHT_OF_LAST_DAY = 5373483.5  # 9999-12-31
 
 
+def length_of_day(table, scale, day):
+    """The microseconds of a day counted from 1972-01-01; on UTC a second more or less where a step follows it."""
+    if scale != UTC:
+        return DAY
+    return DAY + step_after_day(table, *date_of_day(day)) * SECOND
+
+
 def write_julian(table, instant, scale):
-    stamp = stamp_of(table, instant, scale)
-    # An added second counts as the first of the next day, as its 86,400 seconds are over.
-    day, second = divmod(counted_seconds(stamp.label), DAY_SECONDS)
+    label, microsecond = stamp_of(table, instant, scale)[1:]
+    day = day_number(label.year, label.month, label.day)
+    second_of_day = label.hour * 3600 + label.minute * 60 + label.second  # 86,400 in an added second
     # Python divides two whole numbers with one correct rounding, whatever their size.
-    return MIDNIGHT_OF_DAY_0 + day, (second * SECOND + stamp.microsecond) / DAY
+    return MIDNIGHT_OF_DAY_0 + day, (second_of_day * SECOND + microsecond) / length_of_day(table, scale, day)
 
 
 def is_whole_and_half(double):
     return math.isfinite(double) and Fraction(double).denominator == 2
 
 
-def nearest_microsecond(fraction):
-    """Of the double's exact value, a tie to the later."""
-    return math.floor(Fraction(fraction) * DAY + Fraction(1, 2))
+def nearest_microsecond(fraction, length):
+    """Of the double's exact value times the day's length, a tie to the later."""
+    return math.floor(Fraction(fraction) * length + Fraction(1, 2))
 
 
 def read_julian(table, scale, midnight, fraction):
@@ -708,16 +715,14 @@ def read_julian(table, scale, midnight, fraction):
     if not MIDNIGHT_OF_DAY_0 <= midnight <= MIDNIGHT_OF_LAST_DAY:
         raise Refused(RANGE)
     day = int(midnight - MIDNIGHT_OF_DAY_0)
-    microsecond_of_day = nearest_microsecond(fraction)
-    if microsecond_of_day == DAY:
+    length = length_of_day(table, scale, day)
+    microsecond_of_day = nearest_microsecond(fraction, length)
+    if microsecond_of_day == length:
         day, microsecond_of_day = day + 1, 0
     if day == END_OF_DAYS:
         raise Refused(RANGE)
-    second, microsecond = divmod(microsecond_of_day, SECOND)
-    label = label_of_counted_seconds(day * DAY_SECONDS + second)
-    if scale == UTC and not is_admitted(table, label):
-        raise Refused(NOSECOND)
-    return instant_of_admitted(table, scale, label, microsecond)
+    # Within a day instants and microseconds go on together, so no second that the table lacks is met.
+    return instant_of_admitted(table, scale, Label(*date_of_day(day), 0, 0, 0), microsecond_of_day)
 
 
 # ---------------------------------------------------------------------------

@@ -7,6 +7,7 @@ its silent places, not taken from the program.
 
 import datetime
 import io
+import math
 import os
 import re
 import shlex
@@ -105,6 +106,8 @@ def test_worked_on_the_night_desk():
     expect_text(TDT, '1972-01-01T00:00:00', -883_656_032_184_000, '1972 1 1 0 0 0 0')
     expect('write_text -883656032184000 0 1 0 19', '7 0 ' + 'a5' * 19)
     expect('write_julian 0 1', f'0 {bits(2451544.5)} {bits(0.5)}')
+    expect('write_julian 536500836250000 0', f'0 {bits(2457753.5)} 3fefffedcbb7564f')
+    expect_julian(2441498.5, 1 / 128, '0 -868016915007812', UTC, N_LINE)
 
 
 def test_table_and_clock():
@@ -327,7 +330,8 @@ def test_steps_at_the_vouched_month():
                    ('tick 1972 12 31 23 59 60', '0 1973 1 1 0 0 0 0'),
                    ('instant_of 0 1972 12 31 23 59 60 250000', '0 -852033588750000 0'),
                    ('stamp_of -852033588750000 0', '0 0 1972 12 31 23 59 60 250000 0'),
-                   ('write_julian -852033588750000 0', f'0 {bits(2441683.5)} {bits(250_000 / 86_400_000_000)} 0'),
+                   ('write_julian -852033588750000 0', f'0 {bits(2441682.5)} {bits(86_400_250_000 / 86_401_000_000)} 0'),
+                   (f'read_julian 0 {bits(2441682.5)} {bits(1 - 2.0**-53)}', '0 -852033588000000 0'),
                    (text_call(UTC, '1973-01-31T23:59:60'), '6 0 0 0 0 0 0 0 0 0 0'))
     expect_vouched(12, T_LINE, ('tick 1972 12 31 23 59 59', '11 0 0 0 0 0 0 0'))
     expect_vouched(7, N_LINE, ('tick 1972 6 30 23 59 58', '0 1972 7 1 0 0 0 0'), ('tick 1972 6 30 23 59 59', '6 0 0 0 0 0 0 0'),
@@ -483,10 +487,82 @@ def test_readings_of_written_texts():
     expect_written(536_500_836_999_999, 1, UTC, 0, '2016-366T23:59:60')
 
 
+def expect_pair(instant, midnight, fraction, scale=UTC, table=B_LINE):
+    """The pair of an instant, both parts as bits, written and read back."""
+    expect(f'write_julian {instant} {scale}', f'0 {midnight} {fraction}', table)
+    expect(f'read_julian {scale} {midnight} {fraction}', f'0 {instant}', table)
+
+
+def test_a_utc_day_counts_its_own_length():
+    """31 December 2016 has 86,401 seconds from 536,414,436 on; 30 June 1972 has 86,399 under N and 86,401 under B, from -868,017,590 on."""
+    day, next_day = bits(2457753.5), bits(2457754.5)
+    assert day == '4142c04cc0000000'
+    expect_pair(536_414_436_000_000, day, bits(0.0))
+    expect_pair(536_457_636_000_000, day, '3fdfffe7ba49c869')
+    expect_pair(536_457_636_500_000, day, bits(0.5))
+    expect_pair(536_500_835_250_000, day, bits(86_399_250_000 / 86_401_000_000))
+    expect_pair(536_500_836_250_000, day, '3fefffedcbb7564f')
+    expect_pair(536_500_836_999_999, day, '3feffffffffe68c7')
+    expect_pair(536_500_837_000_000, next_day, bits(0.0))
+    expect_pair(536_500_837_250_000, next_day, bits(250_000 / 86_400_000_000))
+    expect_pair(536_414_435_999_999, bits(2457752.5), bits(86_399_999_999 / 86_400_000_000))
+    june = bits(2441498.5)
+    for table, noon, last_instant, last in ((N_LINE, '3fe0000c22ed8511', -867_931_191_000_001, '3feffffffffe68c5'),
+                                            (B_LINE, '3fdfffe7ba49c869', -867_931_189_000_001, '3feffffffffe68c7')):
+        expect_pair(-867_974_390_000_000, june, noon, table=table)
+        expect_pair(last_instant, june, last, table=table)
+        expect_pair(last_instant + 1, bits(2441499.5), bits(0.0), table=table)
+    expect_pair(-867_931_191_000_000 - 750_000, june, bits(86_398_250_000 / 86_399_000_000), table=N_LINE)
+
+
+def test_uniform_days_count_86400_seconds():
+    """Also those that are 31 December 2016 and 30 June 1972."""
+    for scale, instant in ((TAI, 536_457_600_000_000), (TDT, 536_457_567_816_000), (GPS, 536_457_619_000_000)):
+        expect_pair(instant, bits(2457753.5), bits(0.5), scale)
+        expect_pair(instant + 43_199_250_000, bits(2457753.5), bits(86_399_250_000 / 86_400_000_000), scale)
+    expect_pair(-867_974_400_000_000, bits(2441498.5), bits(0.5), TAI, N_LINE)
+    expect_julian(2441498.5, 1 / 128, '0 -868016925000000', TAI, N_LINE)
+
+
+def test_readings_of_utc_pairs():
+    """Nearest to the double's exact value times the day's length, a tie to the later, and the length itself is the next midnight."""
+    december, june = 536_414_436_000_000, -868_017_590_000_000
+    for midnight, first, table, microsecond, fraction in (
+            (2457753.5, december, B_LINE, 675_007_813, '3f80000000000000'), (2457753.5, december, B_LINE, 675_007_812, '3f7fffffffffffff'),
+            (2457753.5, december, B_LINE, 675_007_813, '3f80000000000001'), (2441498.5, june, B_LINE, 675_007_813, '3f80000000000000'),
+            (2441498.5, june, N_LINE, 674_992_188, '3f80000000000000'), (2441498.5, june, N_LINE, 674_992_187, '3f7fffffffffffff'),
+            (2457753.5, december, B_LINE, 2_025_023_438, bits(3 / 128)), (2457753.5, december, B_LINE, 85_725_992_188, bits(127 / 128)),
+            (2441498.5, june, N_LINE, 85_724_007_813, bits(127 / 128)), (2457753.5, december, B_LINE, 5_273_499, bits(1 / 16384)),
+            (2457752.5, december - 86_400_000_000, B_LINE, 5_273_438, bits(1 / 16384)),
+            (2457752.5, december - 86_400_000_000, B_LINE, 675_000_000, bits(1 / 128)),
+            (2457753.5, december, B_LINE, 85_115_086_212, '3fef8613e657d96f'),
+            (2457753.5, december, B_LINE, 86_401_000_000, bits(1 - 2.0**-53)), (2457753.5, december, B_LINE, 0, bits(-0.0)),
+            (2441498.5, june, N_LINE, 86_399_000_000, bits(1 - 2.0**-53)), (2441498.5, june, N_LINE, 0, bits(-0.0))):
+        expect(f'read_julian 0 {bits(midnight)} {fraction}', f'0 {first + microsecond}', table)
+    assert 86_401_000_000 * float.fromhex('0x1.f8613e657d96fp-1') == 85_115_086_212.5  # where the exact product is below the half
+    # On a day of 86,400 seconds this is 23:59:59.5, a second that N takes out; on N's and B's own day it is another.
+    for table, answer in ((N_LINE, -867_931_191_499_994), (B_LINE, -867_931_189_500_006)):
+        expect_julian(2441498.5, 86_399_500_000 / 86_400_000_000, f'0 {answer}', UTC, table)
+
+
+def test_refusals_of_utc_pairs():
+    """8, 11, 13, 7 and 7 again, and never 6."""
+    nan, whole = float('nan'), 1 - 2.0**-53
+    for midnight, fraction in ((nan, nan), (2441498.5, 0.5), (0.5, 0.5)):
+        expect_julian(midnight, fraction, '8 0', 4, 'table 0 0')
+        expect_julian(midnight, fraction, '11 0', UTC, 'table 0 0')
+    for table in (B_LINE, N_LINE):
+        for midnight, fraction in ((nan, 0.5), (2441498.5, nan), (2441498.5, 1.0), (2441498.5, -2.0**-1074), (2441499.0, 0.5), (0.5, 1.0)):
+            expect_julian(midnight, fraction, '13 0', UTC, table)
+        for midnight, fraction in ((2441316.5, 0.5), (2441316.5, whole), (5373484.5, 0.0), (0.5, 0.5), (5373483.5, whole)):
+            expect_julian(midnight, fraction, '7 0', UTC, table)
+    expect_julian(5373483.5, 86_399_999_999 / 86_400_000_000, '0 252455572836999999', UTC)
+    for table, instant in (('table 2 2 0 10 96335 11', 252_452_894_411_000_000), ('table 2 2 0 10 96335 9', 252_452_894_409_000_000)):
+        expect_julian(5373452.5, whole, f'0 {instant}', UTC, table)  # the day before 1 December 9999
+        expect_julian(5373483.5, whole, '7 0', UTC, table)
+
+
 def test_readings_of_julian_dates():
-    for pair_of in (536_500_836_250_000, 536_500_837_250_000):
-        expect(f'write_julian {pair_of} 0', f'0 {bits(2457754.5)} {bits(250_000 / 86_400_000_000)}')
-    expect_julian(2457754.5, 250_000 / 86_400_000_000, '0 536500837250000', UTC)
     noon = 43_200_000_000
     expect_julian(2451544.5, float.fromhex('0x1.b26c2e8aee24fp-3'), f'0 {18_327_202_812 - noon}')
     expect_julian(2451544.5, 1 / 16384, f'0 {5_273_438 - noon}')
@@ -502,23 +578,28 @@ def test_readings_of_julian_dates():
     expect_julian(0.5, 1.0, '13 0')
     expect_julian(5373483.5, 1 - 2.0**-53, '7 0')
     expect_julian(5373483.5, 86_399_999_999 / 86_400_000_000, '0 252455572799999999')
-    last = 86_399_000_000
-    expect_julian(2441498.5, (last - 0.5) / 86_400_000_000 + 2.0**-53, '6 0', UTC, N_LINE)
-    expect_julian(2441498.5, (last - 0.5) / 86_400_000_000 - 2.0**-52, '0 -867931191000001', UTC, N_LINE)
-    expect_julian(2441498.5, 86_399_999_999 / 86_400_000_000, '6 0', UTC, N_LINE)
-    expect_julian(2441498.5, 1 - 2.0**-53, '0 -867931191000000', UTC, N_LINE)
+    for length, table, first_of_july in ((86_399_000_000, N_LINE, -867_931_191_000_000), (86_401_000_000, B_LINE, -867_931_189_000_000)):
+        expect_julian(2441498.5, (length - 0.5) / length + 2.0**-53, f'0 {first_of_july}', UTC, table)
+        expect_julian(2441498.5, (length - 0.5) / length - 2.0**-52, f'0 {first_of_july - 1}', UTC, table)
+        expect_julian(2441498.5, 1 - 2.0**-53, f'0 {first_of_july}', UTC, table)
     expect('write_julian -43200000000 1', '0 4142b42c40000000 0000000000000000')
 
 
 def test_fraction_is_rounded_once():
-    """No double lies nearer to the exact fraction, which is off by at most one part in 2^54."""
+    """No double lies nearer to the exact fraction, which is off by at most one part in 2^54 of that day, whatever its length."""
     dice = generate.Dice(2)
-    for microsecond in [1, 3, 7, 86_399_999_999, *(dice.below(second.DAY) for _ in range(2_000))]:
-        midnight, fraction = second.write_julian(second.table_of_bulletin_c(), microsecond - 43_200_000_000, TAI)
-        exact = Fraction(microsecond, 86_400_000_000)
-        error = abs(Fraction(fraction) - exact)
-        assert midnight == 2451544.5 and error <= Fraction(1, 2**54)
-        assert all(error <= abs(Fraction(generate.beside(fraction, steps)) - exact) for steps in (-1, 1))
+    b, n = second.table_of_bulletin_c(), second.read_block(bytes.fromhex('020d'))
+    for table, scale, first, day, length in ((b, TAI, -43_200_000_000, 2451544.5, 86_400_000_000),
+                                             (b, UTC, -43_168_000_000, 2451544.5, 86_400_000_000),
+                                             (b, UTC, -868_017_590_000_000, 2441498.5, 86_401_000_000),
+                                             (n, UTC, -868_017_590_000_000, 2441498.5, 86_399_000_000)):
+        for microsecond in [1, 3, 7, length - 1, *(dice.below(length) for _ in range(2_000))]:
+            midnight, fraction = second.write_julian(table, first + microsecond, scale)
+            exact = Fraction(microsecond, length)
+            error = abs(Fraction(fraction) - exact)
+            assert midnight == day and error <= Fraction(1, 2**54)
+            assert all(error <= abs(Fraction(generate.beside(fraction, steps)) - exact) for steps in (-1, 1))
+            assert fraction == float(microsecond) / float(length)  # and one division of two doubles gives it
 
 
 # ---------------------------------------------------------------------------
@@ -963,8 +1044,70 @@ def test_round_trips():
             continue
         text = second.write_text(table, instant, picture, scale, 6, 256)
         assert second.read_text(table, scale, text) == (instant, stamp)
-        shift = second.SECOND if stamp.label.second == 60 else 0
-        assert second.read_julian(table, scale, *second.write_julian(table, instant, scale)) == instant + shift
+        assert second.read_julian(table, scale, *second.write_julian(table, instant, scale)) == instant
+
+
+def expect_own_pairs(table, scale, instants):
+    """Each comes back, and a later one has a later pair, so that none is shared."""
+    before = (0.0, 0.0)
+    for instant in instants:
+        pair = second.write_julian(table, instant, scale)
+        assert pair > before and 0.0 <= pair[1] < 1.0, (instant, pair, before)
+        assert second.read_julian(table, scale, *pair) == instant
+        before = pair
+
+
+def test_no_pair_is_shared():
+    """On every day with a step of every kind of table and about both its midnights, and on the uniform scales on the same days."""
+    dice = generate.Dice(4)
+    b = second.table_of_bulletin_c()
+    for table in (b, *(table for _, table in generate.good_tables())):
+        for month in list(table.steps)[:2] + list(table.steps)[-2:]:
+            end = table.held_from[table.used_months.index(month)] * second.SECOND  # as an instant, the midnight after the step
+            begin = end - second.DAY - table.steps[month] * second.SECOND
+            offsets = [whole * second.SECOND + part for whole in range(-3, 3) for part in (0, 1, 250_000, 999_999)]
+            near = [edge + offset for edge in (begin, end) for offset in offsets]
+            inside = [dice.between(begin, end) for _ in range(20)]
+            for scale in (UTC, TAI):
+                expect_own_pairs(table, scale, sorted({*near, *inside}))
+    for table, midnight in ((b, 536_500_837_000_000), (second.read_block(bytes.fromhex('020d')), -867_931_191_000_000)):
+        for scale in generate.SCALES:
+            expect_own_pairs(table, scale, range(midnight - 300, midnight + 300))
+            expect_own_pairs(table, scale, range(midnight - 3 * second.SECOND, midnight + 3 * second.SECOND, 7_919))
+
+
+def test_pairs_against_the_clock():
+    """Another way to a day's length: the clock ticks as many times from midnight to midnight."""
+    for table, date, length in ((generate.T, (1972, 6, 30), 86_401), (generate.N, (1972, 6, 30), 86_399),
+                                (generate.T, (1972, 6, 29), 86_400)):
+        label, ticks = Label(*date, 0, 0, 0), 0
+        while label[:3] == date:
+            if ticks % 997 == 0 or ticks > 86_390:
+                midnight, fraction = second.write_julian(table, second.instant_of(table, UTC, label, 0), UTC)
+                assert midnight == 2441317.5 + second.day_number(*date) and fraction == ticks / length
+            label, ticks = second.tick(table, label), ticks + 1
+        assert ticks == length
+
+
+def test_pairs_of_random_lines():
+    """Random lines meet days of each length and ties on each, and no pair is refused with 6."""
+    table, lengths, ties = generate.BULLETIN, set(), set()
+    for line in generate.random_lines(5, 30_000):
+        words = line.split(' ')
+        given = table
+        answer, table = second.answer_line(given, line.encode('latin-1'))
+        if words[0] == 'read_julian' and answer[0] != '?':
+            assert answer.split()[0] in ('0', '7', '8', '11', '13')
+            if words[1] == '0' and answer[:2] == '0 ':
+                midnight, fraction = (struct.unpack('>d', bytes.fromhex(word))[0] for word in words[2:])
+                length = generate.length_at(given, UTC, midnight)
+                lengths.add(length)
+                if Fraction(fraction) * length % 1 == Fraction(1, 2):
+                    ties.add(length)
+    assert lengths == ties == {86_399_000_000, 86_400_000_000, 86_401_000_000}
+    for length in sorted(lengths):
+        for fraction in generate.fractions_rounded_otherwise(generate.Dice(6), length, 5):
+            assert math.floor(fraction * length + 0.5) != second.nearest_microsecond(fraction, length)
 
 
 def test_marks_against_instants():
