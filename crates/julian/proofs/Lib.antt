@@ -1,13 +1,7 @@
-pub mod Rounding
-pub mod Fraction
-pub mod Pattern
-pub mod Reading
-pub mod Halves
 pub mod Years
 pub mod Midnight
 pub mod Dates
+pub mod Uniform
 pub mod Marks
-pub mod Refusals
-pub mod Added
 pub mod Promise
 pub mod Desk

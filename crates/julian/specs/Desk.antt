@@ -1,34 +1,26 @@
--- The scope's midnights, and doubles that are easily read otherwise.
+-- The scope's midnights, and instants of a day with an added second; doubles that are easily read otherwise stand in the crate `fraction`.
 -- Assumes nothing.
 use mathlib.Core.Path.{_≡_}
-use mathlib.Core.Bool.{true, false}
-use Prim.Native.Nat.{_+_}
-use lib.IntN.{pos, negsuc}
-use lib.Ieee.{fin, binary64, ofBits}
+use Prim.Native.Nat.{ℕ, _+_}
+use lib.IntN.{ℤ, pos}
+use lib.Ieee.{binary64, ofBits}
 use Rattle.months.specs.Months.{daysBefore}
-use Rattle.leap.specs.Leap.{epoch}
-use Rattle.labels.specs.Seconds.{lastMonth}
-use Rattle.julian.specs.Fraction.{day, fractionOf, isFraction, microsOf}
-use Rattle.julian.specs.Midnight.{midnightOf, isMidnight, firstMidnight, lastMidnight}
+use Rattle.leap.specs.Leap.{bulletinC}
+use Rattle.labels.specs.Seconds.{firstMonth, lastMonth}
+use Rattle.julian.specs.Midnight.{midnightOf, firstMidnight, lastMidnight}
+use Rattle.julian.specs.Promise.{Writes}
+
+-- under Bulletin C UTC has the pair of these bit patterns at the instant x
+abbrev pub OnUtc : ℤ → ℕ → ℕ → Type 0
+OnUtc x a b = Writes bulletinC 0 x (record { midnight = ofBits binary64 a; fraction = ofBits binary64 b })
 
 pub record Desk : Type 0 where
-  -- the fraction of midnight is +0.0
-  pub midnight-zero : fractionOf 0 ≡ fin false 0 (pos 0)
   -- 1972-01-01 and 9999-12-31
-  pub first-midnight : midnightOf (daysBefore epoch) ≡ firstMidnight
+  pub first-midnight : midnightOf (daysBefore firstMonth) ≡ firstMidnight
   pub last-midnight : midnightOf (daysBefore lastMonth + 30) ≡ lastMidnight
-  -- 1 / 16384 is 5,273,437.5 microseconds: the later
-  pub tie : microsOf (fin false 1 (negsuc 13)) ≡ 5273438
-  -- 0x1.b26c2e8aee24fp-3 is 18,327,202,812.49999.. microseconds; its product in doubles would round up
-  pub no-tie : microsOf (ofBits binary64 0x3fcb_26c2_e8ae_e24f) ≡ 18327202812
-  -- the largest double below 1 is nearest to the whole day, which is the next midnight
-  pub whole-day : microsOf (ofBits binary64 0x3fef_ffff_ffff_ffff) ≡ day
-  -- minus zero, the sign's bit alone, is a fraction; minus the smallest double and 1 are none
-  pub minus-zero-is : ofBits binary64 0x8000_0000_0000_0000 ≡ fin true 0 (pos 0)
-  pub minus-zero : isFraction (fin true 0 (pos 0)) ≡ true
-  pub below-zero : isFraction (fin true 1 (negsuc 1073)) ≡ false
-  pub one : isFraction (fin false 1 (pos 0)) ≡ false
-  -- -0.5 is a midnight's form, 2451545.0 and 2^52 are not
-  pub minus-half : isMidnight (fin true 1 (negsuc 0)) ≡ true
-  pub noon : isMidnight (fin false 2451545 (pos 0)) ≡ false
-  pub too-large : isMidnight (fin false 1 (pos 52)) ≡ false
+  -- 2016-12-31, which has 86,401 seconds: 12:00:00, 23:59:60.25 and its last microsecond
+  pub noon : OnUtc (pos 536457636000000) 0x4142_c04c_c000_0000 0x3fdf_ffe7_ba49_c869
+  pub added : OnUtc (pos 536500836250000) 0x4142_c04c_c000_0000 0x3fef_ffed_cbb7_564f
+  pub last : OnUtc (pos 536500836999999) 0x4142_c04c_c000_0000 0x3fef_ffff_fffe_68c7
+  -- and the next midnight
+  pub next : OnUtc (pos 536500837000000) 0x4142_c04d_4000_0000 0x0000_0000_0000_0000

@@ -1,10 +1,15 @@
--- The month of the next day, the record of two days that the code makes, and the instant of a reading by its day.
+-- The month of the next day, the record of two days that the code makes, and the instants of a day.
 -- Assumes nothing.
 use mathlib.Core.Path.{_≡_, ap₂}
+use mathlib.Core.List.{[], _∷_}
 use Prim.Native.Nat.{ℕ, _+_, _*_, _≤_}
 use native.Mathlib.Omega.{arith}
 use lib.IntN.{ℤ}
+use borrow.Author.Tests.{le-leb}
+use lib.Dec.{leb}
 use Rattle.laws.proofs.Cases.{by-order}
+use Rattle.answer.specs.declared.Refusal.the-variants.{Range as RANGE}
+use Rattle.answer.specs.Refusals.{refusing}
 use Rattle.months.specs.Months.{daysBefore, monthLength}
 use Rattle.months.proofs.Laws.{days-next, length-least}
 use Rattle.calendar.specs.Days.{monthOfDay}
@@ -16,8 +21,10 @@ use Rattle.labels.specs.Seconds.{dayCount, secondOf, microOfDay, microOf, axisA
 use Rattle.labels.specs.Lengths.{daySeconds}
 use Rattle.labels.proofs.Lengths.{label-falls}
 use Rattle.stamp.specs.declared.Scale.{Scale}
+use Rattle.stamp.specs.declared.DayStart.{DayStart}
+use Rattle.stamp.specs.declared.InstantAnswer.the-variants.{At, Refused}
 use Rattle.stamp.specs.Scales.{offsetsOf, toInstant, instantFor}
-use Rattle.stamp.specs.Days.{dayStart, dayOn, instantAfter}
+use Rattle.stamp.specs.Days.{dayStart, dayOn, firstDay, lastDay, instantAfter, instantOn}
 
 module _ (d : ℕ) where
   abbrev m : ℕ
@@ -41,3 +48,8 @@ unfolding secondOf
 instant-by-day t s r low high =
     let u : microOf r ≡ 86400000000 * dayCount (r .label) + microOfDay r = omega arith in
     ap₂ (λ (n m : ℕ). toInstant s (axisAt n (offsetsOf t s m))) u (label-falls (r .label) low high)
+
+-- from 1972 on, and with no more than a day's microseconds, only the last day is asked
+pub on-day : (s : Scale) (b : DayStart) (u : ℕ) → firstDay ≤ b .number → u ≤ 86401000000 → instantOn s b u ≡ refusing Refused ((leb (b .number) lastDay, RANGE) ∷ []) (At (instantAfter s b u))
+unfolding instantOn
+on-day s b u l h = rw (le-leb firstDay (b .number) l, le-leb u 86401000000 h)

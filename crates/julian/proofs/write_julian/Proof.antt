@@ -1,14 +1,14 @@
 use mathlib.Core.Path.{_≡_, sym, ap, ap₂, _∙_}
 use mathlib.Core.Bool.{Bool}
-use Prim.Native.Nat.{ℕ}
 use borrow.Author.Needs.{needs}
 use lib.IntN.{ℤ}
 use Rattle.laws.proofs.Machine.{read1}
+use Rattle.stamp.specs.declared.DayTime.{DayTime}
 use Rattle.stamp.specs.declared.MarkedShown.{MarkedShown}
 use Rattle.stamp.specs.declared.ShownAnswer.{ShownAnswer}
 use Rattle.stamp.specs.declared.ShownAnswer.the-variants.{Shown}
 use Rattle.stamp.specs.Scales.{scaleOf}
-use Rattle.stamp.specs.Back.{shownOf}
+use Rattle.stamp.specs.Days.{shownOf}
 use Rattle.stamp.specs.Marks.{beyondAt, markedShown, shownOfMarked}
 use Rattle.julian.specs.declared.JulianDate.{JulianDate}
 use Rattle.julian.specs.declared.JulianAnswer.the-variants.{Dated}
@@ -31,7 +31,7 @@ module _ (c : tie.After-shown-of) where
   shown-is e = sym e ∙ ap (λ (m : MarkedShown). m .answer) told
 
   -- what is shown has its mark
-  mark-is : {u : ℕ} → c .shown-of .result .answer ≡ Shown u → c .shown-of .result .beyond ≡ mark
+  mark-is : {d : DayTime} → c .shown-of .result .answer ≡ Shown d → c .shown-of .result .beyond ≡ mark
   mark-is e = ap (λ (m : MarkedShown). m .beyond) told ∙ ap (λ a. markedShown a mark .beyond) (sym (shown-is e))
 
   answered : {v : ShownAnswer} → c .shown-of .result .answer ≡ v → markedPair (dated v) mark ≡ writeJulianMarked (s .args .t1) (s .args .instant) (s .args .scale)
