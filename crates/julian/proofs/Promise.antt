@@ -92,9 +92,9 @@ module _ (t : Table) where
         );
         uniform-read = λ k p x h. (
           λ e.
-          let g = read-given t k p x (at-instant _ x e) in
-          let s = g .3 in
-          (leb-true k 3 (g .0), g .1, g .2, (s .reading, s .reads, stands-even t k h x (s .reading) (s .reads) p (g .2 .is-fraction) (s .day-is) (s .micro-is))),
+              let g = read-given t k p x (at-instant _ x e) in
+              let s = g .3 in
+              (leb-true k 3 (g .0), g .1, g .2, (s .reading, s .reads, stands-even t k h x (s .reading) (s .reads) p (g .2 .is-fraction) (s .day-is) (s .micro-is))),
           λ g. ap instantResults (read-from t k p x (le-leb k 3 (g .0)) (g .1) (g .2) (even-stands t k h x (g .3 .0) (g .3 .1) p (g .2 .is-fraction) (g .3 .2))),
         );
       }

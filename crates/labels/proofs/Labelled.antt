@@ -84,19 +84,6 @@ module _ (o : Offsets) (st : Steps o) where
           stands = omega (arith, label-second o st month s in-month, ap up (ap o (label-month o st month s in-month)), ap down (ap o (label-month o st month s in-month)));
         })
 
-    pub label-month-at : monthOf (labelAt o s) ≡ placeAt o s .month
-    unfolding labelAt month
-    label-month-at =
-        let e : monthAt o s lastMonth ≡ month = month-is o st s v month in-month in
-        rw e (label-month o st month s in-month)
-
-    -- what the label shows is the place's month and second
-    pub label-shows : secondOf (labelAt o s) ≡ 86400 * placeAt o s .start + placeAt o s .second
-    unfolding labelAt month
-    label-shows =
-        let e : monthAt o s lastMonth ≡ month = month-is o st s v month in-month in
-        rw e (omega (arith, label-second o st month s in-month, since-is o month s (in-month .begun)))
-
     -- the numbers of a place are small
     pub place-few : (placeAt o s .start ≤ 4000000) × (placeAt o s .second ≤ 3000000)
     unfolding month

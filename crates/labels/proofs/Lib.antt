@@ -7,7 +7,6 @@ pub mod Guess
 pub mod Admitted
 pub mod Years
 pub mod Labelled
-pub mod Uniform
 pub mod Judging
 pub mod Lengths
 pub mod Promise

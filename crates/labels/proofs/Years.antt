@@ -50,6 +50,12 @@ pub last-second : secondOf (lastReading .label) ≡ 315569519999
 unfolding secondOf
 last-second = omega (arith, days-last)
 
+pub first-micro : microOf firstReading ≡ 62230291200000000
+first-micro = omega (arith, first-second)
+
+pub last-micro : microOf lastReading ≡ 315569519999999999
+last-micro = omega (arith, last-second)
+
 -- ---- between them
 
 module _ (o : Offsets) (st : Steps o) (a : ℤ) where

@@ -15,8 +15,7 @@ use Rattle.leap.proofs.Moves.{at-first}
 use Rattle.labels.specs.declared.Label.{Label}
 use Rattle.labels.specs.Labels.{whole, labelTests}
 use Rattle.labels.specs.Seconds.{microOf, axisOf, firstReading}
-use Rattle.labels.proofs.Years.{axis-is}
-use Rattle.labels.proofs.Uniform.{first-micro}
+use Rattle.labels.proofs.Years.{axis-is, first-micro}
 use Rattle.stamp.specs.declared.Scale.the-variants.{Utc}
 use Rattle.stamp.specs.declared.InstantAnswer.the-variants.{At, Refused}
 use Rattle.stamp.specs.Scales.{scaleTests, toInstant, instantFor}

@@ -17,8 +17,7 @@ use Rattle.leap.proofs.Moves.{at-first}
 use Rattle.labels.specs.declared.Reading.{Reading}
 use Rattle.labels.specs.Labels.{label, at, monthOf}
 use Rattle.labels.specs.Seconds.{secondOf, microOf, firstReading}
-use Rattle.labels.proofs.Years.{days-last}
-use Rattle.labels.proofs.Uniform.{first-micro}
+use Rattle.labels.proofs.Years.{days-last, first-micro}
 use Rattle.stamp.specs.declared.Scale.{Scale}
 use Rattle.stamp.specs.declared.Scale.the-variants.{Utc, Tai, Tdt, Gps}
 use Rattle.stamp.specs.Scales.{fixed, offsetsOf, instantFor, scaleOf, scaleNumber}
@@ -90,6 +89,8 @@ constants =
       the-month-after = (refl, (refl, refl));
       months-repeat = length-again;
       days-repeat = days-again;
+      first-day = (omega (arith, days-1972), refl);
+      last-day = (omega (arith, days-last), refl);
       microseconds-of-a-day = refl;
       midnight-of-1972 = midnight 1972 1 1 2441317 720258 (omega (arith, days-1972)) refl (omega arith);
       midnight-of-2000 = midnight 2000 1 1 2451544 730485 (omega (arith, days-2000)) refl (omega arith);

@@ -30,18 +30,15 @@ use Rattle.leap.specs.Leap.{accepted, offsetAt}
 use Rattle.labels.specs.declared.Label.{Label}
 use Rattle.labels.specs.declared.Reading.{Reading}
 use Rattle.labels.specs.Labels.{uniform, label, whole, monthOf, realMonth, realDay, minuteLength, hasSecond, labelTests}
-use Rattle.labels.specs.Seconds.{secondOf, microOf, axisOf, firstReading, lastReading as last-reading, inYears as inLabels}
-use Rattle.labels.specs.Back.{readingAt}
-use Rattle.labels.proofs.Admitted.{admitted-to, admitted-from}
-use Rattle.labels.proofs.Exists.{second-uniform}
-use Rattle.labels.proofs.Labelled.{At as Stood}
-use Rattle.labels.proofs.Uniform.{first-micro, last-micro, reading-stands, reading-micro, reading-back}
+use Rattle.labels.specs.Seconds.{dayCount, axisOf, firstReading, lastReading as last-reading, inYears as inLabels}
+use Rattle.labels.proofs.Years.{days-last}
 use Rattle.stamp.specs.declared.Scale.{Scale}
 use Rattle.stamp.specs.declared.InstantAnswer.the-variants.{At, Refused as NoInstant}
 use Rattle.stamp.specs.declared.StampAnswer.the-variants.{Stamped, Refused as NoStamp}
 use Rattle.stamp.specs.Scales.{scaleOf, scaleTests, offsetsOf, mostSecond, toInstant, toAxis, instantFor}
 use Rattle.stamp.specs.Stamps.{instantOf, instantResults, stampOf, stampResults}
-use Rattle.stamp.specs.Back.{inRange, stampAt, showingTests, instantShowing}
+use Rattle.stamp.specs.Back.{inRange, stampAt}
+use Rattle.stamp.specs.Days.{lastDay}
 use Rattle.stamp.specs.Promise.{stamp}
 use Rattle.stamp.proofs.Scales.{to-instant-is, to-axis-is}
 use Rattle.clock.specs.declared.TickAnswer.{TickAnswer}
@@ -64,11 +61,9 @@ use Rattle.text.specs.Text.{dateOr, monthDayOf, readingOf, fieldsRead, readText
 use Rattle.text.proofs.Exactly.{sized}
 use Rattle.julian.specs.declared.JulianDate.{JulianDate}
 use Rattle.julian.specs.declared.JulianAnswer.the-variants.{Refused as NoDate}
-use Rattle.julian.specs.Fraction.{isFraction}
-use Rattle.julian.specs.Midnight.{isMidnight, midnightInYears, dayNumber}
-use Rattle.julian.specs.Dates.{writeJulian, julianResults, pairTests, microRead, readJulian}
-use Rattle.julian.proofs.Years.{years}
-use Rattle.promises.specs.Orders.{verdict, Verdicts, realMonthDay, withinLabels, instantOfTests, realAsShown, readTextTests, instantTests, writeTextTests, readJulianTests, ShownBy, startTests, isLast, tickTests, Orders, GivenExactly, EveryCall}
+use Rattle.fraction.specs.Fraction.{isFraction, isHalf}
+use Rattle.julian.specs.Dates.{writeJulian, julianResults, readTests, readJulian}
+use Rattle.promises.specs.Orders.{verdict, Verdicts, realMonthDay, withinLabels, instantOfTests, realAsShown, readTextTests, instantTests, writeTextTests, readJulianTests, startTests, isLast, tickTests, Orders, GivenExactly, EveryCall}
 
 -- ---- lists of tests
 
@@ -213,51 +208,13 @@ module _ (t : Table) where
       ∙ past number (writeTests t x p k digits) (λ e. ap (λ (n : ℕ). cond (leb n (length buffer)) 0 1) (sized p digits (stampAt t (scaleOf k) x .reading) (search (and-l, and-r, leb-true)) (search (and-l, and-r, leb-true))))
       ∙ rw in-range
 
-  module _ (k : ℕ) (p : JulianDate) where
-    abbrev u : ℕ
-    u = microRead p
-
-    -- a pair's day is 1972-01-01 or later, and so is its microsecond
-    begun : midnightInYears (p .midnight) ≡ true → 62230291200000000 ≤ u
-    unfolding microRead dayNumber
-    begun e = omega (arith, years (p .midnight) (subst T (sym e) tt) .range)
-
-    -- judged by any reading that is the one worked out, where there is one
-    judged : (r : Reading) → (62230291200000000 ≤ u → u ≤ 315569519999999999 → readingAt uniform u ≡ r) → instantResults (readJulian t k p) .0 ≡ verdict (readJulianTests t k p r)
-    unfolding readJulian instantShowing
-    judged r h =
-        let o = offsetsOf t (scaleOf k) in
-        refusing-map (λ a. instantResults a .0) NoInstant (scaleTests t k ++ (pairTests p ++ showingTests t (scaleOf k) u)) (At (instantFor t (scaleOf k) (readingAt uniform u)))
-        ∙ past number (scaleTests t k ++ pairTests p)
-        (λ e.
-        let low : 62230291200000000 ≤ u = begun (search (and-l, and-r)) in
-        ap (λ (b : Bool). cond (b && leb u (microOf last-reading)) (cond (hasSecond o (readingAt uniform u .label)) 0 6) 7) (le-leb (microOf firstReading) u (omega (arith, first-micro)))
-        ∙ past number ((leb u (microOf last-reading), RANGE) ∷ []) (λ f. ap (λ (q : Reading). cond (hasSecond o (q .label)) 0 6) (h low (omega (arith, last-micro, leb-true u (microOf last-reading) (and-l _ true f))))))
-        ∙ rw (joined (isMidnight (p .midnight)) (isFraction (p .fraction)))
-
-    read-julian : (r : Reading) → ShownBy p r → instantResults (readJulian t k p) .0 ≡ verdict (readJulianTests t k p r)
-    read-julian r w =
-        let a = admitted-to uniform 59 r (w .0) in
-        let stood : Stood uniform (r .label) (secondOf (r .label)) = record { since-1972 = a .since-1972; until-9999 = a .until-9999; exists = a .exists; stands = refl } in
-        judged r (λ low high. ap (readingAt uniform) (sym (w .1)) ∙ reading-back r stood (a .on-clock .micro-high))
-
-    read-no-reading : ((r : Reading) → ShownBy p r → ⊥) → (r : Reading) → instantResults (readJulian t k p) .0 ≡ verdict (readJulianTests t k p r)
-    read-no-reading none r =
-        judged r
-        (λ low high.
-        let a = reading-stands u low high in
-        let e = a .exists in
-        absurd
-        (none (readingAt uniform u) (
-          admitted-from uniform 59 (readingAt uniform u)
-              (record {
-                since-1972 = a .since-1972;
-                until-9999 = a .until-9999;
-                exists = e;
-                on-clock = record { hour-high = e .hour-high; minute-high = e .minute-high; second-most = second-uniform (readingAt uniform u .label) e; micro-high = omega arith };
-              }),
-          reading-micro u low high,
-        )))
+  read-julian : (k : ℕ) (p : JulianDate) → instantResults (readJulian t k p) .0 ≡ verdict (readJulianTests t k p)
+  unfolding readJulian
+  read-julian k p =
+      let o = offsetsOf t (scaleOf k) in
+      let last : dayCount (last-reading .label) ≡ lastDay = omega (arith, days-last) in
+      refusing-map (λ a. instantResults a .0) NoInstant (scaleTests t k ++ readTests o p) _
+      ∙ rw (joined (isHalf (p .midnight)) (isFraction (p .fraction)), last)
 
   tick-the-clock : (l : Label) → tickResults (tick t l) .0 ≡ verdict (tickTests t l)
   unfolding tick
@@ -278,7 +235,6 @@ module _ (t : Table) where
         stamp-of = stamp-of;
         write-julian = write-julian;
         read-julian = read-julian;
-        read-no-reading = read-no-reading;
         write-block = λ buffer. refusing-map (λ a. writtenResults a .0) NotWritten (roomLast (blockTests t) (blockOf t) buffer) (Wrote (length (blockOf t)));
         write-kernel = λ buffer. refusing-map (λ a. writtenResults a .0) NotWritten (roomLast (kernelTests t) (kernelOf t) buffer) (Wrote (length (kernelOf t)));
         start-the-clock = refusing-map (λ a. tickResults a .0) NoTick (startTests t) (Next (label 1972 1 1 0 0 0));
@@ -293,7 +249,7 @@ orders =
       instant-of = λ t k r. refl;
       stamp-of = λ t k x. refl;
       write-julian = λ t k x. refl;
-      read-julian = λ t k p r. refl;
+      read-julian = λ t k p. refl;
       write-block = λ t buffer. refl;
       write-kernel = λ t buffer. refl;
       start-the-clock = λ t. refl;

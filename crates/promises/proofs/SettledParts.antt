@@ -43,11 +43,18 @@ settled-parts =
       judge = λ most r k. equal;
       in-last-minute = λ days l k. equal;
       minute-length = λ days here after l k. equal;
+      day-seconds = λ last here after k. equal;
+      day-of = λ days rest k. equal;
       label-of = λ p k. equal;
       scale-numbered = λ n k. equal;
       scale-number = λ s k. equal;
       refused-instant = λ why k. equal;
       beyond-on = λ s v m k. equal;
+      instant-on = λ s v day micro k. equal;
+      fraction-of = λ part whole k. equal;
+      is-fraction = λ x k. equal;
+      is-half = λ x k. equal;
+      nearest-of = λ x factor shift k. equal;
     }
 
 pub settled-tables : (count : ℕ) (months : Lent (List ℕ)) (offsets : Lent (List ℤ)) (vouched : ℕ) → SettledTables count months offsets vouched
@@ -62,7 +69,7 @@ settled-tables count months offsets vouched =
       instant-in = λ s r k. equal;
       stamp-of = λ x scale k. equal;
       shown-of = λ x scale k. equal;
-      instant-showing = λ s micro k. equal;
+      day-on = λ s day k. equal;
     }
 
 -- ---- what follows

@@ -16,6 +16,7 @@ use Rattle.answer.specs.declared.Written.the-variants.{Wrote, Refused as NotWri
 use Rattle.answer.specs.Buffers.{writtenResults}
 use Rattle.answer.proofs.Orders.{number-some}
 use Rattle.months.specs.Months.{leapYear, monthLength, daysBefore}
+use Rattle.calendar.specs.Days.{monthOfDay}
 use Rattle.leap.specs.declared.Table.{Table}
 use Rattle.leap.specs.Leap.{withoutMonth, vouchedRight, oneApart, placeRight, accepted, lastBegun, offsetIn, beyond}
 use Rattle.leap.specs.Entries.{tableOf, Good}
@@ -27,7 +28,6 @@ use Rattle.labels.specs.declared.Label.{Label}
 use Rattle.labels.specs.declared.Reading.{Reading}
 use Rattle.labels.specs.Labels.{uniform, label, at, monthOf, lastMinute, minuteIn, realYear, realMonth, realDay, realClock, hasSecond}
 use Rattle.labels.specs.Seconds.{axisAt}
-use Rattle.labels.specs.Back.{readingAt}
 use Rattle.stamp.specs.declared.Scale.{Scale}
 use Rattle.stamp.specs.declared.Scale.the-variants.{Utc, Tai, Tdt, Gps}
 use Rattle.stamp.specs.declared.Stamp.{Stamp}
@@ -35,8 +35,8 @@ use Rattle.stamp.specs.declared.InstantAnswer.{InstantAnswer}
 use Rattle.stamp.specs.declared.InstantAnswer.the-variants.{At, Refused as NoInstant}
 use Rattle.stamp.specs.declared.StampAnswer.{StampAnswer}
 use Rattle.stamp.specs.declared.StampAnswer.the-variants.{Stamped, Refused as NoStamp}
-use Rattle.stamp.specs.Scales.{scaleOf, toInstant}
-use Rattle.stamp.specs.Back.{stampAt, instantShowing}
+use Rattle.stamp.specs.Scales.{scaleOf, offsetsOf, toInstant}
+use Rattle.stamp.specs.Back.{stampAt}
 use Rattle.stamp.specs.Stamps.{instantOf, instantResults, stampOf, stampResults}
 use Rattle.stamp.specs.Marks.{beyondOn, markedInstant, markedStamp, stampOfMarked}
 use Rattle.stamp.specs.Promise.{Reads, stamp}
@@ -66,10 +66,10 @@ use Rattle.text.proofs.Answers.{same-without-month}
 use Rattle.text.proofs.Promise.{promised}
 use Rattle.julian.specs.declared.JulianAnswer.{JulianAnswer}
 use Rattle.julian.specs.declared.JulianAnswer.the-variants.{Dated, Refused as NoDate}
-use Rattle.julian.specs.Dates.{writeJulian, julianResults, microRead, readJulian}
+use Rattle.julian.specs.Dates.{writeJulian, julianResults, dayRead, readJulian}
 use Rattle.julian.specs.Marks.{markedPair}
 use Rattle.julian.proofs.Dates.{read-given}
-use Rattle.julian.proofs.Marks.{shown-reads}
+use Rattle.julian.proofs.Marks.{month-read}
 use Rattle.promises.specs.Vouched.{Beside, Beyond, BeyondAt, Marked, FullLength, SameAnswers, until2017, VouchedDesk, RequestA2}
 use Rattle.promises.proofs.Orders.{every-call}
 
@@ -198,16 +198,18 @@ module _ (t : Table) where
               λ w. let g = pair-reads x k (w .0) in i .1 (w .0, at-from (g .0) k (g .1 .0) x (g .1 .1) (w .1) (w .2)),
             );
         read-julian = λ k p.
-            let r = readingAt uniform (microRead p) in
-            let i = instant-mark (readJulian t k p) (beyondOn (t .vouched) (scaleOf k) (monthOf (r .label))) in (
+            let mark = λ (m : ℕ). beyondOn (t .vouched) (scaleOf k) m ≡ true in
+            let i = instant-mark (readJulian t k p) (beyondOn (t .vouched) (scaleOf k) (monthOfDay (dayRead (offsetsOf t (scaleOf k)) p))) in (
               λ e.
                   let w = i .0 e in
-                  let a = at-instant _ (w .0) (w .1 .0) in
-                  let u = instant-to (read-given t k p (w .0) a .1) k r (w .0) (shown-reads t k p (w .0) a) (w .1 .1) in
+                  let g = read-given t k p (w .0) (at-instant _ (w .0) (w .1 .0)) in
+                  let s = g .3 in
+                  let u = instant-to (g .1) k (s .reading) (w .0) (s .reads) (subst mark (sym (month-read t k p (w .0) s)) (w .1 .1)) in
                   (w .0, (w .1 .0, u .0, u .1)),
               λ w.
-                  let a = at-instant _ (w .0) (w .1 .0) in
-                  i .1 (w .0, (w .1 .0, instant-from (read-given t k p (w .0) a .1) k r (w .0) (shown-reads t k p (w .0) a) (w .1 .1) (w .1 .2))),
+                  let g = read-given t k p (w .0) (at-instant _ (w .0) (w .1 .0)) in
+                  let s = g .3 in
+                  i .1 (w .0, (w .1 .0, subst mark (month-read t k p (w .0) s) (instant-from (g .1) k (s .reading) (w .0) (s .reads) (w .1 .1) (w .1 .2)))),
             );
         clock-starts = clock (start t);
         clock-ticks = λ l. clock (tick t l);

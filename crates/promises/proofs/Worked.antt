@@ -21,7 +21,7 @@ use Rattle.leap.proofs.BulletinC.{bulletin-accepted}
 use Rattle.labels.specs.declared.Reading.{Reading}
 use Rattle.labels.specs.Labels.{at, labelTests, lastMinute, minuteIn, realYear, realMonth, realDay, realClock, hasSecond}
 use Rattle.labels.specs.Seconds.{axisAt, inYears}
-use Rattle.labels.proofs.Uniform.{first-micro}
+use Rattle.labels.proofs.Years.{first-micro}
 use Rattle.stamp.specs.declared.Scale.{Scale}
 use Rattle.stamp.specs.declared.Stamp.{Stamp}
 use Rattle.stamp.specs.Scales.{scaleOf, scaleTests, offsetsOf, mostSecond, toInstant, toAxis}
@@ -42,7 +42,8 @@ use Rattle.text.specs.Text.{readingOf, fieldsRead, textOf, textAt, readText, te
 use Rattle.text.proofs.Exactly.{reads-as}
 use Rattle.text.proofs.Desk.{without-shape}
 use Rattle.julian.specs.Dates.{writeJulian, julianResults}
-use Rattle.julian.proofs.Desk.{julian-row, desk}
+use Rattle.fraction.proofs.Desk.{desk as doubles}
+use Rattle.julian.proofs.Desk.{julian-row, desk as pairs}
 use Rattle.promises.specs.Worked.{reads, writes, writes-not, rows, furtherRows, tableIn, Right, Worked}
 
 -- ---- the tables of the desk's blocks
@@ -126,4 +127,4 @@ unfolding eqZ allBelow leapYear monthLength daysBefore oneApart placeRight vouch
 further-rows = (quick is-B _ _, (written-noon, (quick is-B _ _, (refused-early, (ap (λ (t : Table). julianResults (writeJulian t (pos 0) 1)) is-B ∙ julian-row, tt)))))
 
 pub worked : Worked
-worked = record { named-blocks = named-right; proved-set = proved-set; further-rows = further-rows; block-edges = edged; no-picture = without-shape; doubles = desk }
+worked = record { named-blocks = named-right; proved-set = proved-set; further-rows = further-rows; block-edges = edged; no-picture = without-shape; pairs = pairs; doubles = doubles }

@@ -2,7 +2,7 @@
 -- Assumes nothing.
 use mathlib.Core.Path.{_≡_}
 use mathlib.Core.Bool.{true, false}
-use Prim.Native.Nat.{ℕ, _+_, _-_, _*_}
+use Prim.Native.Nat.{ℕ, _+_, _*_}
 use lib.IntN.{ℤ, pos, negℤ, _+ℤ_, _-ℤ_, _*ℤ_}
 use lib.Ieee.Exact.{HasValue}
 use Rattle.months.specs.Months.{monthLength, daysBefore}
@@ -10,16 +10,17 @@ use Rattle.leap.specs.declared.Table.{Table}
 use Rattle.leap.specs.Leap.{accepted, epoch, offsetAt, lastEntryMonth as tableMonths}
 use Rattle.labels.specs.declared.Reading.{Reading}
 use Rattle.labels.specs.Labels.{label, at, monthOf}
-use Rattle.labels.specs.Seconds.{secondOf, microOf, firstMonth, lastMonth, endMonth, firstReading}
+use Rattle.labels.specs.Seconds.{secondOf, dayCount, microOf, firstMonth, lastMonth, endMonth, firstReading}
 use Rattle.stamp.specs.declared.Scale.{Scale}
 use Rattle.stamp.specs.declared.Scale.the-variants.{Utc, Tai, Tdt, Gps}
 use Rattle.stamp.specs.Scales.{scaleOf, scaleNumber, instantFor}
-use Rattle.julian.specs.Fraction.{day}
+use Rattle.stamp.specs.Days.{firstDay, lastDay}
 use Rattle.julian.specs.Midnight.{midnightOf}
+use Rattle.julian.specs.Promise.{day}
 
 -- the Julian midnight of a date is n and a half
 abbrev pub MidnightIs : ℕ → ℕ → ℕ → ℕ → Type 0
-MidnightIs y m d n = HasValue (midnightOf (daysBefore (monthOf (label y m d 0 0 0)) + (d - 1))) false (2 * n + 1) 2
+MidnightIs y m d n = HasValue (midnightOf (dayCount (label y m d 0 0 0))) false (2 * n + 1) 2
 
 -- the microseconds that a reading shows after 2000-01-01 12:00:00, or before it
 abbrev pub sinceNoon : Reading → ℤ
@@ -46,7 +47,10 @@ pub record Constants : Type 0 where
   -- the calendar repeats after 400 years, 146,097 days
   pub months-repeat : (m : ℕ) → monthLength (m + 12 * 400) ≡ monthLength m
   pub days-repeat : (m : ℕ) → daysBefore (m + 12 * 400) ≡ daysBefore m + 146097
-  -- a day has 86,400,000,000 microseconds
+  -- 1972-01-01 and 9999-12-31 are the days 720,258 and 3,652,424
+  pub first-day : (dayCount (label 1972 1 1 0 0 0) ≡ 720258) × (firstDay ≡ 720258)
+  pub last-day : (dayCount (label 9999 12 31 0 0 0) ≡ 3652424) × (lastDay ≡ 3652424)
+  -- a day without a step has 86,400,000,000 microseconds
   pub microseconds-of-a-day : day ≡ 86400 * 1000000
   -- 2441317.5, 2451544.5 and 5373483.5
   pub midnight-of-1972 : MidnightIs 1972 1 1 2441317

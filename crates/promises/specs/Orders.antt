@@ -21,7 +21,7 @@ use Rattle.leap.specs.Leap.{accepted, offsetAt}
 use Rattle.labels.specs.declared.Label.{Label}
 use Rattle.labels.specs.declared.Reading.{Reading}
 use Rattle.labels.specs.Labels.{uniform, whole, realYear, realMonth, realDay, realClock, hasSecond, admitted}
-use Rattle.labels.specs.Seconds.{microOf, firstReading, lastReading}
+use Rattle.labels.specs.Seconds.{dayCount, firstReading, lastReading}
 use Rattle.stamp.specs.declared.Scale.{Scale}
 use Rattle.stamp.specs.Scales.{scaleOf, knownScale, offsetsOf, mostSecond, instantFor}
 use Rattle.stamp.specs.Stamps.{instantOf, instantResults, stampOf, stampResults}
@@ -35,9 +35,9 @@ use Rattle.pictures.specs.Pictures.{pictureText, WellFormed}
 use Rattle.text.specs.Promise.{textLength}
 use Rattle.text.specs.Text.{readingOf, readText, textResults, writeText}
 use Rattle.julian.specs.declared.JulianDate.{JulianDate}
-use Rattle.julian.specs.Fraction.{isFraction}
-use Rattle.julian.specs.Midnight.{isMidnight, midnightInYears}
-use Rattle.julian.specs.Dates.{writeJulian, julianResults, microRead, readJulian}
+use Rattle.fraction.specs.Fraction.{isFraction, isHalf}
+use Rattle.julian.specs.Midnight.{midnightInYears}
+use Rattle.julian.specs.Dates.{writeJulian, julianResults, dayRead, readJulian}
 
 -- the numbers of a list of tests
 abbrev pub order : List (Bool × Refusal) → List ℕ
@@ -108,20 +108,15 @@ writeTextTests t x p k digits buffer =
 
 -- ---- a Julian date
 
--- `read_julian`: the pair, then the microsecond that it stands for after rounding, and the reading r that shows this
-abbrev pub readJulianTests : Table → ℕ → JulianDate → Reading → List (Bool × Refusal)
-readJulianTests t k p r =
+-- `read_julian`: the pair, then the day that it is read as after rounding, which may be the one after 31 December 9999
+abbrev pub readJulianTests : Table → ℕ → JulianDate → List (Bool × Refusal)
+readJulianTests t k p =
     (knownScale k, ASK)
     ∷ (accepted t, TABLE)
-    ∷ (isMidnight (p .midnight) && isFraction (p .fraction), NUMBER)
+    ∷ (isHalf (p .midnight) && isFraction (p .fraction), NUMBER)
     ∷ (midnightInYears (p .midnight), RANGE)
-    ∷ (leb (microRead p) (microOf lastReading), RANGE)
-    ∷ (hasSecond (offsetsOf t (scaleOf k)) (r .label), NOSECOND)
+    ∷ (leb (dayRead (offsetsOf t (scaleOf k)) p) (dayCount (lastReading .label)), RANGE)
     ∷ []
-
--- r shows it, on days of 86,400 seconds from 1972 to 9999
-abbrev pub ShownBy : JulianDate → Reading → Type 0
-ShownBy p r = (admitted uniform 59 r ≡ true) × (microOf r ≡ microRead p)
 
 -- ---- a table alone, and the clock
 
@@ -162,8 +157,8 @@ pub record Orders : Type 0 where
   pub instant-of : (t : Table) (k : ℕ) (r : Reading) → order (instantOfTests t k r) ≡ 8 ∷ 11 ∷ 3 ∷ 4 ∷ 5 ∷ 6 ∷ []
   pub stamp-of : (t : Table) (k : ℕ) (x : ℤ) → order (instantTests t k x) ≡ 8 ∷ 11 ∷ 7 ∷ []
   pub write-julian : (t : Table) (k : ℕ) (x : ℤ) → order (instantTests t k x) ≡ 8 ∷ 11 ∷ 7 ∷ []
-  -- 13, 7, then rounding, 7 again, 6
-  pub read-julian : (t : Table) (k : ℕ) (p : JulianDate) (r : Reading) → order (readJulianTests t k p r) ≡ 8 ∷ 11 ∷ 13 ∷ 7 ∷ 7 ∷ 6 ∷ []
+  -- 13, 7, then rounding, 7 again
+  pub read-julian : (t : Table) (k : ℕ) (p : JulianDate) → order (readJulianTests t k p) ≡ 8 ∷ 11 ∷ 13 ∷ 7 ∷ 7 ∷ []
   pub write-block : (t : Table) (buffer : List ℕ) → order (writeBlockTests t buffer) ≡ 11 ∷ 1 ∷ []
   pub write-kernel : (t : Table) (buffer : List ℕ) → order (writeKernelTests t buffer) ≡ 11 ∷ 1 ∷ []
   pub start-the-clock : (t : Table) → order (startTests t) ≡ 11 ∷ []
@@ -178,9 +173,7 @@ pub record GivenExactly (t : Table) : Type 0 where
   pub instant-of : (k : ℕ) (r : Reading) → instantResults (instantOf t k r) .0 ≡ verdict (instantOfTests t k r)
   pub stamp-of : (k : ℕ) (x : ℤ) → stampResults (stampOf t x k) .0 ≡ verdict (instantTests t k x)
   pub write-julian : (k : ℕ) (x : ℤ) → julianResults (writeJulian t x k) .0 ≡ verdict (instantTests t k x)
-  -- a pair that some reading shows, and one that none does, whatever the reading after RANGE is
-  pub read-julian : (k : ℕ) (p : JulianDate) (r : Reading) → ShownBy p r → instantResults (readJulian t k p) .0 ≡ verdict (readJulianTests t k p r)
-  pub read-no-reading : (k : ℕ) (p : JulianDate) → ((r : Reading) → ShownBy p r → ⊥) → (r : Reading) → instantResults (readJulian t k p) .0 ≡ verdict (readJulianTests t k p r)
+  pub read-julian : (k : ℕ) (p : JulianDate) → instantResults (readJulian t k p) .0 ≡ verdict (readJulianTests t k p)
   pub write-block : (buffer : List ℕ) → writtenResults (writeBlock t buffer) .0 ≡ verdict (writeBlockTests t buffer)
   pub write-kernel : (buffer : List ℕ) → writtenResults (writeKernel t buffer) .0 ≡ verdict (writeKernelTests t buffer)
   pub start-the-clock : tickResults (start t) .0 ≡ verdict (startTests t)

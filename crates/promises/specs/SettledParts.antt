@@ -25,12 +25,16 @@ use Rattle.labels.specs.declared.Label.{Label}
 use Rattle.labels.specs.declared.Reading.{Reading}
 use Rattle.labels.specs.declared.Place.{Place}
 use Rattle.labels.specs.Labels.{monthOf, judged, inLastMinute, minuteIn}
-use Rattle.labels.specs.Back.{labelOf}
+use Rattle.labels.specs.Lengths.{secondsIn}
+use Rattle.labels.specs.Back.{dayOf, labelOf}
 use Rattle.stamp.specs.declared.Scale.{Scale}
 use Rattle.stamp.specs.declared.InstantAnswer.the-variants.{Refused as NoInstant}
-use Rattle.stamp.specs.Scales.{scaleOf, scaleNumber, asked}
+use Rattle.stamp.specs.declared.DayStart.{DayStart}
+use Rattle.stamp.specs.Scales.{scaleOf, scaleNumber, asked, offsetsOf}
+use Rattle.stamp.specs.Days.{dayOn}
 use Rattle.stamp.specs.Stamps.{instantIn}
-use Rattle.stamp.specs.Marks.{beyondOn, markedInstant, stampOfMarked, shownOfMarked, instantShowingMarked}
+use Rattle.stamp.specs.Marks.{beyondOn, markedInstant, stampOfMarked, shownOfMarked, instantOnMarked}
+use Rattle.fraction.specs.Fraction.{fractionOf, isFraction, isHalf, nearestAt}
 use Rattle.kinds.specs.Kinds.{isWhite, isGap, isBetween, isRun, isName, upper, beginData, beginText, ours}
 use Rattle.kinds.specs.Parts.{matched, grown, yearsBegin, grownYear, monthOn, monthNumber}
 use Rattle.automaton.specs.declared.Mode.{Mode}
@@ -77,6 +81,8 @@ use Rattle.labels.proofs.month_of.Reads as labels-month-of
 use Rattle.labels.proofs.judge.Reads as labels-judge
 use Rattle.labels.proofs.in_last_minute.Reads as labels-in-last-minute
 use Rattle.labels.proofs.minute_length.Reads as labels-minute-length
+use Rattle.labels.proofs.day_seconds.Reads as labels-day-seconds
+use Rattle.labels.proofs.day_of.Reads as labels-day-of
 use Rattle.labels.proofs.label_of.Reads as labels-label-of
 use Rattle.stamp.proofs.Scale.numbered.Reads as stamp-scale-numbered
 use Rattle.stamp.proofs.Scale.number.Reads as stamp-scale-number
@@ -86,7 +92,12 @@ use Rattle.stamp.proofs.asked.Reads as stamp-asked
 use Rattle.stamp.proofs.instant_in.Reads as stamp-instant-in
 use Rattle.stamp.proofs.stamp_of_in.Reads as stamp-stamp-of-in
 use Rattle.stamp.proofs.shown_of.Reads as stamp-shown-of
-use Rattle.stamp.proofs.instant_showing.Reads as stamp-instant-showing
+use Rattle.stamp.proofs.day_on.Reads as stamp-day-on
+use Rattle.stamp.proofs.instant_on.Reads as stamp-instant-on
+use Rattle.fraction.proofs.fraction_of.Reads as fraction-fraction-of
+use Rattle.fraction.proofs.is_fraction.Reads as fraction-is-fraction
+use Rattle.fraction.proofs.is_half.Reads as fraction-is-half
+use Rattle.fraction.proofs.nearest_of.Reads as fraction-nearest-of
 use Rattle.pictures.proofs.write_fields.Reads as pictures-write-fields
 use Rattle.pictures.proofs.read_fields.Reads as pictures-read-fields
 use Rattle.kinds.proofs.is_white.Reads as kinds-is-white
@@ -124,7 +135,7 @@ use Rattle.fields.proofs.pattern_field.Reads as fields-pattern-field
 use Rattle.fields.proofs.double.Reads as fields-double
 use Rattle.fields.proofs.pattern.Reads as fields-pattern
 
--- refusals and buffers; months, dates, labels and scales
+-- refusals and buffers; months, dates, labels and scales; parts of a whole
 pub record SettledParts : Type 0 where
   pub refusal-number : (why : Refusal) → Returns answer-number-of.Pre answer-number-of.Post (why & tt) (number why)
   pub marks-of : (beyond : Bool) → Returns answer-marks-of.Pre answer-marks-of.Post (beyond & tt) (marks beyond)
@@ -142,11 +153,18 @@ pub record SettledParts : Type 0 where
   pub judge : (most : ℕ) (r : Reading) → Returns labels-judge.Pre labels-judge.Post (most & r & tt) (judged most r)
   pub in-last-minute : (days : ℕ) (l : Label) → Returns labels-in-last-minute.Pre labels-in-last-minute.Post (days & l & tt) (inLastMinute days l)
   pub minute-length : (days : ℕ) (here after : ℤ) (l : Label) → Returns labels-minute-length.Pre labels-minute-length.Post (days & here & after & l & tt) (minuteIn days here after l)
+  pub day-seconds : (last : Bool) (here after : ℤ) → Returns labels-day-seconds.Pre labels-day-seconds.Post (last & here & after & tt) (secondsIn last here after)
+  pub day-of : (days rest : ℕ) → Returns labels-day-of.Pre labels-day-of.Post (days & rest & tt) (dayOf days rest)
   pub label-of : (p : Place) → Returns labels-label-of.Pre labels-label-of.Post (p & tt) (labelOf p)
   pub scale-numbered : (k : ℕ) → Returns stamp-scale-numbered.Pre stamp-scale-numbered.Post (k & tt) (scaleOf k)
   pub scale-number : (s : Scale) → Returns stamp-scale-number.Pre stamp-scale-number.Post (s & tt) (scaleNumber s)
   pub refused-instant : (why : Refusal) → Returns stamp-refused-instant.Pre stamp-refused-instant.Post (why & tt) (markedInstant (NoInstant why) false)
   pub beyond-on : (s : Scale) (v m : ℕ) → Returns stamp-beyond-on.Pre stamp-beyond-on.Post (s & v & m & tt) (beyondOn v s m)
+  pub instant-on : (s : Scale) (v : ℕ) (day : DayStart) (micro : ℕ) → Returns stamp-instant-on.Pre stamp-instant-on.Post (s & v & day & micro & tt) (instantOnMarked v s day micro)
+  pub fraction-of : (part whole : ℕ) → Returns fraction-fraction-of.Pre fraction-fraction-of.Post (part & whole & tt) (fractionOf whole part)
+  pub is-fraction : (x : Float) → Returns fraction-is-fraction.Pre fraction-is-fraction.Post (x & tt) (isFraction x)
+  pub is-half : (x : Float) → Returns fraction-is-half.Pre fraction-is-half.Post (x & tt) (isHalf x)
+  pub nearest-of : (x : Float) (factor shift : ℕ) → Returns fraction-nearest-of.Pre fraction-nearest-of.Post (x & factor & shift & tt) (nearestAt factor shift x)
 
 -- what is asked of a table whose two arrays are lent: where it is judged, with its month; and past that of its entries alone
 module _ (count : ℕ) (months : Lent (List ℕ)) (offsets : Lent (List ℤ)) (vouched : ℕ) where
@@ -166,7 +184,7 @@ module _ (count : ℕ) (months : Lent (List ℕ)) (offsets : Lent (List ℤ)) (v
     pub instant-in : (s : Scale) (r : Reading) → Returns stamp-instant-in.Pre stamp-instant-in.Post (s & count & months & offsets & r & tt) (instantIn entered s r)
     pub stamp-of : (instant : ℤ) (scale : ℕ) → Returns stamp-stamp-of-in.Pre stamp-stamp-of-in.Post (count & months & offsets & vouched & instant & scale & tt) (stampOfMarked table instant scale)
     pub shown-of : (instant : ℤ) (scale : ℕ) → Returns stamp-shown-of.Pre stamp-shown-of.Post (count & months & offsets & vouched & instant & scale & tt) (shownOfMarked table instant scale)
-    pub instant-showing : (s : Scale) (micro : ℕ) → Returns stamp-instant-showing.Pre stamp-instant-showing.Post (s & count & months & offsets & vouched & micro & tt) (instantShowingMarked table s micro)
+    pub day-on : (s : Scale) (day : ℕ) → Returns stamp-day-on.Pre stamp-day-on.Post (s & count & months & offsets & day & tt) (dayOn (offsetsOf entered s) day)
 
 -- bytes: digits, pictures, lines and their fields
 pub record SettledBytes : Type 0 where

@@ -24,7 +24,8 @@ use Rattle.block.specs.Desk.{blockB, blockT, blockN, BlockRight, named, edges}
 use Rattle.block.specs.Reading.{readBlock}
 use Rattle.text.specs.Text.{readText, textResults, writeText, writeTextAfter}
 use Rattle.text.specs.Desk.{shapeless, Shapeless}
-use Rattle.julian.specs.Desk.{Desk}
+use Rattle.fraction.specs.Desk.{Desk as Doubles}
+use Rattle.julian.specs.Desk.{Desk as Pairs}
 use Rattle.julian.specs.Dates.{writeJulian, julianResults}
 
 pub data Row : Type 0 where
@@ -98,7 +99,8 @@ pub record Worked : Type 0 where
   pub named-blocks : All BlockRight named
   pub proved-set : All Right rows
   pub further-rows : All Right furtherRows
-  -- our own: the edges of the paragraph on blocks, texts without a picture, doubles that are easily read otherwise
+  -- our own: the edges of the paragraph on blocks, texts without a picture, pairs of a day with an added second, doubles that are easily read otherwise
   pub block-edges : All BlockRight edges
   pub no-picture : All Shapeless shapeless
-  pub doubles : Desk
+  pub pairs : Pairs
+  pub doubles : Doubles

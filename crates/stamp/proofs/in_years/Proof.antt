@@ -17,7 +17,7 @@ use Rattle.leap.specs.Leap.{tabled}
 use Rattle.leap.proofs.Facts.{accepted-to}
 use Rattle.labels.specs.Labels.{Offsets}
 use Rattle.labels.specs.Seconds.{axisAt, axisOf, firstReading, lastReading, inYears}
-use Rattle.labels.proofs.Uniform.{first-micro, last-micro}
+use Rattle.labels.proofs.Years.{first-micro, last-micro}
 use Rattle.stamp.specs.Scales.{offsetsOf}
 use Rattle.stamp.proofs.Scales.{first-offset}
 use Rattle.stamp.proofs.in_years.Statement.{statement}
