@@ -22,7 +22,7 @@
 #include <string.h>
 
 /* tools/build-shared and tools/install take it from here. */
-#define MUNDREFF_VERSION "0.2"
+#define MUNDREFF_VERSION "0.3"
 
 /* Before each call that can be refused: the compiler warns where its number is not looked at. */
 #if (defined(__cplusplus) && __cplusplus >= 201703L) || (defined(__STDC_VERSION__) && __STDC_VERSION__ >= 202311L)

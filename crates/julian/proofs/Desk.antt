@@ -5,7 +5,7 @@ use mathlib.Core.Bool.{true, false}
 use Prim.Native.Nat.{ℕ, _+_, _*_}
 use lib.Dec.{eqb}
 use lib.IntN.{ℤ, pos, negsuc}
-use lib.Ieee.{fin, binary64, ofBits, ofInt, div, add}
+use lib.Ieee.{fin, ofBits, ofInt, div, add}
 use Rattle.months.specs.Months.{leapYear, monthLength, daysBefore}
 use Rattle.leap.specs.Leap.{lastBegun, offsetIn, bulletinC}
 use Rattle.leap.proofs.BulletinC.{bulletin-accepted}
@@ -21,7 +21,7 @@ use Rattle.stamp.specs.Promise.{Reads}
 use Rattle.fraction.specs.Fraction.{fractionOf}
 use Rattle.julian.specs.declared.JulianDate.{JulianDate}
 use Rattle.julian.specs.Midnight.{midnightOf}
-use Rattle.julian.specs.Dates.{pairOf, julianResults}
+use Rattle.julian.specs.Dates.{julianResults}
 use Rattle.julian.specs.Promise.{Writes}
 use Rattle.julian.specs.Desk.{Desk}
 use Rattle.julian.proofs.Dates.{write-from}

@@ -3,7 +3,7 @@
 use mathlib.Core.Path.{_≡_, refl, sym, ap, subst, _∙_}
 use mathlib.Core.Bool.{Bool, true, false}
 use mathlib.Core.List.{[], _∷_}
-use Prim.Native.Nat.{ℕ, _≤_}
+use Prim.Native.Nat.{ℕ}
 use native.Mathlib.Omega.{arith}
 use borrow.Author.Tests.{le-leb, leb-true}
 use lib.Dec.{leb}
@@ -20,7 +20,6 @@ use Rattle.stamp.specs.declared.InstantAnswer.the-variants.{At, Refused}
 use Rattle.stamp.specs.Scales.{scaleOf, knownScale, mostSecond}
 use Rattle.stamp.specs.Stamps.{instantResults}
 use Rattle.stamp.specs.Days.{lastDay}
-use Rattle.stamp.specs.Promise.{Reads}
 use Rattle.stamp.proofs.Promise.{at-instant}
 use Rattle.fraction.specs.Fraction.{isFraction, isHalf, nearestOf}
 use Rattle.fraction.proofs.Fraction.{is-nearest}
@@ -28,7 +27,7 @@ use Rattle.julian.specs.declared.JulianDate.{JulianDate}
 use Rattle.julian.specs.declared.JulianAnswer.the-variants.{Dated}
 use Rattle.julian.specs.Midnight.{midnightInYears, dayNumber}
 use Rattle.julian.specs.Dates.{dayMicros, julianResults, dayRead, microRead, readJulian}
-use Rattle.julian.specs.Promise.{Writes, ReadAs, ReadRefused, offsetsOn, Near, Stands, evenPair, Pairs}
+use Rattle.julian.specs.Promise.{Writes, ReadAs, ReadRefused, offsetsOn, Near, Pairs}
 use Rattle.julian.proofs.Midnight.{midnight-value}
 use Rattle.julian.proofs.Dates.{at-pair, Given, write-given, write-from, given-by, day-parts, in-days, in-its-day, read-given, read-from, own-back}
 use Rattle.julian.proofs.Uniform.{pair-even, stands-even, even-stands}

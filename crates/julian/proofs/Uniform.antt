@@ -12,7 +12,7 @@ use Rattle.leap.specs.declared.Table.{Table}
 use Rattle.labels.specs.declared.Reading.{Reading}
 use Rattle.labels.specs.Labels.{Offsets, uniform}
 use Rattle.labels.specs.Seconds.{dayCount, secondOf, microOfDay, microOf}
-use Rattle.labels.proofs.Admitted.{Admitted, admitted-to}
+use Rattle.labels.proofs.Admitted.{admitted-to}
 use Rattle.labels.proofs.Lengths.{uniform-day}
 use Rattle.stamp.specs.declared.Scale.{Scale}
 use Rattle.stamp.specs.Scales.{scaleOf, offsetsOf, mostSecond}

@@ -2,7 +2,6 @@
 // Between a pair and an instant stand a day, counted from year 0, and a microsecond of it: the fraction is of that day's own length.
 ghost use mathlib.Core.Path.{_≡_};
 ghost use mathlib.Core.Bool.{false};
-ghost use Prim.Native.Nat.{_≤_};
 ghost use lib.Dec.{T};
 ghost use Rattle.leap.specs.Leap.{tabled, vouchedTo};
 ghost use Rattle.julian.specs.Midnight.{midnightInYears, dayNumber};

@@ -13,9 +13,9 @@ use Rattle.calendar.proofs.Days.{in-month}
 use Rattle.labels.specs.declared.Label.{Label}
 use Rattle.labels.specs.declared.Reading.{Reading}
 use Rattle.labels.specs.Labels.{Offsets, label, whole, monthOf, realYear, realMonth, realDay}
-use Rattle.labels.specs.Seconds.{timeOfDay, dayCount, microOfDay, firstMonth, lastMonth, endMonth}
+use Rattle.labels.specs.Seconds.{dayCount, microOfDay, firstMonth, lastMonth, endMonth}
 use Rattle.labels.specs.Lengths.{daySeconds}
-use Rattle.labels.specs.Promise.{hasLabel, date, realDate}
+use Rattle.labels.specs.Promise.{hasLabel, realDate}
 use Rattle.labels.proofs.Admitted.{Admitted, admitted-to, admitted-from}
 use Rattle.labels.proofs.Years.{days-end}
 use Rattle.labels.proofs.Promise.{own-length}

@@ -1,13 +1,13 @@
 -- Each call's number is that of the first test of its list that fails.
 -- Assumes nothing.
-use mathlib.Core.Path.{_≡_, refl, sym, ap, ap₂, subst, _∙_}
+use mathlib.Core.Path.{_≡_, refl, sym, ap, ap₂, _∙_}
 use mathlib.Core.Logic.{⊎-elim}
 use mathlib.Core.Bool.{Bool, true, false, not, cond, _&&_}
 use mathlib.Core.List.{List, [], _∷_, _++_}
-use Prim.Native.Nat.{ℕ, suc, _+_, _-_, _*_, _≤_}
+use Prim.Native.Nat.{ℕ, suc, _+_, _-_, _*_}
 use native.Mathlib.Omega.{arith}
 use borrow.Author.Tests.{le-leb, leb-true, eqb-true}
-use lib.Dec.{T, leb}
+use lib.Dec.{leb}
 use lib.IntN.{ℤ}
 use lib.ListN.{length}
 use lib.Signed.{leZ}
@@ -29,7 +29,7 @@ use Rattle.leap.specs.declared.Table.{Table}
 use Rattle.leap.specs.Leap.{accepted, offsetAt}
 use Rattle.labels.specs.declared.Label.{Label}
 use Rattle.labels.specs.declared.Reading.{Reading}
-use Rattle.labels.specs.Labels.{uniform, label, whole, monthOf, realMonth, realDay, minuteLength, hasSecond, labelTests}
+use Rattle.labels.specs.Labels.{label, whole, monthOf, realMonth, realDay, minuteLength, labelTests}
 use Rattle.labels.specs.Seconds.{dayCount, axisOf, firstReading, lastReading as last-reading, inYears as inLabels}
 use Rattle.labels.proofs.Years.{days-last}
 use Rattle.stamp.specs.declared.Scale.{Scale}

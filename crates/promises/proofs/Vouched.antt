@@ -26,7 +26,7 @@ use Rattle.leap.specs.Outcomes.{Outcome, entered, fault, tableRead}
 use Rattle.leap.proofs.Vouched.{vouched, without-month}
 use Rattle.labels.specs.declared.Label.{Label}
 use Rattle.labels.specs.declared.Reading.{Reading}
-use Rattle.labels.specs.Labels.{uniform, label, at, monthOf, lastMinute, minuteIn, realYear, realMonth, realDay, realClock, hasSecond}
+use Rattle.labels.specs.Labels.{label, at, monthOf, lastMinute, minuteIn, realYear, realMonth, realDay, realClock, hasSecond}
 use Rattle.labels.specs.Seconds.{axisAt}
 use Rattle.stamp.specs.declared.Scale.{Scale}
 use Rattle.stamp.specs.declared.Scale.the-variants.{Utc, Tai, Tdt, Gps}
@@ -198,7 +198,7 @@ module _ (t : Table) where
               λ w. let g = pair-reads x k (w .0) in i .1 (w .0, at-from (g .0) k (g .1 .0) x (g .1 .1) (w .1) (w .2)),
             );
         read-julian = λ k p.
-            let mark = λ (m : ℕ). beyondOn (t .vouched) (scaleOf k) m ≡ true in
+            let mark : ℕ → Type 0 = λ m. beyondOn (t .vouched) (scaleOf k) m ≡ true in
             let i = instant-mark (readJulian t k p) (beyondOn (t .vouched) (scaleOf k) (monthOfDay (dayRead (offsetsOf t (scaleOf k)) p))) in (
               λ e.
                   let w = i .0 e in
@@ -228,7 +228,7 @@ module _ (t : Table) where
     passes = good ∙ sym (without-month t (t .vouched) good)
 
     pub same-answers : SameAnswers t
-    unfolding instantOf stampOf readText writeJulian readJulian instantShowing start tick
+    unfolding instantOf stampOf readText writeJulian readJulian start tick
     same-answers =
         record {
           instant-of = λ k r. rw passes refl;

@@ -20,7 +20,7 @@ use Rattle.leap.specs.declared.Table.{Table}
 use Rattle.leap.specs.Leap.{accepted, offsetAt}
 use Rattle.labels.specs.declared.Label.{Label}
 use Rattle.labels.specs.declared.Reading.{Reading}
-use Rattle.labels.specs.Labels.{uniform, whole, realYear, realMonth, realDay, realClock, hasSecond, admitted}
+use Rattle.labels.specs.Labels.{whole, realYear, realMonth, realDay, realClock, hasSecond}
 use Rattle.labels.specs.Seconds.{dayCount, firstReading, lastReading}
 use Rattle.stamp.specs.declared.Scale.{Scale}
 use Rattle.stamp.specs.Scales.{scaleOf, knownScale, offsetsOf, mostSecond, instantFor}

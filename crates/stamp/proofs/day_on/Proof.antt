@@ -1,16 +1,13 @@
 -- `stamp::day_on` meets its contract: the calendar read once, and the table walked once.
 -- Assumes nothing.
-use mathlib.Core.Path.{_≡_, sym, ap, ap₂, _∙_}
+use mathlib.Core.Path.{_≡_, sym, ap, _∙_}
 use Prim.Native.Nat.{ℕ, _+_}
 use native.Mathlib.Omega.{arith}
 use borrow.Author.Needs.{needs}
 use borrow.Author.Tests.{eqb-true, eqb-false}
-use lib.Dec.{eqb}
-use lib.IntN.{ℤ}
 use mir.Syntax.{w32}
 use mir.Val.{SFits, toZ, ofZ}
 use mir.Facts.{toZ-ofZ}
-use Rattle.laws.proofs.Machine.{read2}
 use Rattle.months.specs.Months.{daysBefore}
 use Rattle.months.proofs.Laws.{days-next, length-most}
 use Rattle.calendar.specs.declared.Span.{Span}
@@ -18,7 +15,7 @@ use Rattle.calendar.specs.Days.{monthOfDay}
 use Rattle.calendar.proofs.Days.{in-month}
 use Rattle.leap.specs.Leap.{tabled}
 use Rattle.labels.specs.Labels.{Offsets}
-use Rattle.labels.specs.Lengths.{secondsIn, daySeconds}
+use Rattle.labels.specs.Lengths.{daySeconds}
 use Rattle.stamp.specs.Scales.{offsetsOf}
 use Rattle.stamp.proofs.Days.{next-month, same-month, spanned}
 use Rattle.stamp.proofs.day_on.Statement.{statement}
