@@ -98,6 +98,8 @@ typedef struct {
    if no leap second is announced that the table lacks; but nobody has vouched for that. Get a newer table before you rely on it.
    The month is that of the label read, written or shown, for a Julian date that of the instant's label, for a tick that of the new label.
    A 23:59:60 in a month beyond is refused with NOSECOND and has no mark: before you call the stamp wrong, look for a newer table.
+   A month is vouched for to its end, the length of its last day too: every Julian pair of that day depends on whether a second is added behind it.
+   Where that is not announced yet, and Julian dates are read or written on UTC, vouch for the month before.
    BEYOND is never set on the uniform scales. Where no month is given it is not set either, and says nothing. */
 enum { MUNDREFF_BEYOND = 1 };
 
@@ -196,9 +198,13 @@ MUNDREFF_CHECKED static inline uint32_t mundreff_write_string(const mundreff_tab
    by the day's microseconds. On the uniform scales a day has 86,400 seconds. On UTC it has as many as the table gives it, 86,399, 86,400 or
    86,401: these are the quasi-Julian dates of SOFA and ERFA. So 23:59:60.25 has its own day's midnight and a fraction just below 1, no two
    instants of a scale share a pair, and every one comes back exactly.
-   The midnights are ERFA's to the last bit. The fractions are rounded once here and more often there, and may be one unit in the last place apart,
-   some ten picoseconds. Older versions counted 86,400 seconds on every UTC day: what they wrote for a day with an added or a taken-out second is
-   read up to a second off here.
+   Do not reckon with UTC pairs: fraction * 86400 is no number of seconds on a day with an added or a taken-out second, and the difference of two
+   pairs is no duration across one; both are up to a second off. Read the pairs and subtract the instants. Do not add the two parts either: one
+   double holds a Julian date to 20 microseconds only.
+   Where ERFA, which has leap seconds of its own, has those of the table, the midnights are ERFA's to the last bit. The fractions are rounded once
+   here and more often there, and may be one unit in the last place apart, some ten picoseconds (examples/against_erfa.c says where more).
+   A pair belongs to the table that it was written under: one that lacks the step behind that day reads it up to a second off. So is read what
+   version 0.2 or an older one wrote for such a day: they counted 86,400 seconds on every UTC day.
    Refusals: ASK, TABLE, RANGE. */
 MUNDREFF_CHECKED uint32_t mundreff_write_julian(const mundreff_table *table, int64_t instant, uint32_t scale, double *midnight, double *fraction, uint32_t *marks);
 

@@ -13,6 +13,11 @@ use Rattle.labels.proofs.day_seconds.Tie as tie
 minute-is : (c : tie.After-last-minute) → c .last-minute .result ≡ lastMinute (c .before .before .args .here) (c .before .before .args .next)
 minute-is c = let s = c .before .before in read2 lastMinute (s .fits .here) (s .fits .next) (c .last-minute .ensures)
 
+-- named, so that a fault of the sum shows where `last_minute` has one too
+returns : tie.Need-returns
+unfolding secondsIn
+returns c = cond-yes _ (c .before .if1 .taken) (ap (λ (n : ℕ). 86340 + n) (minute-is c))
+
 pub day-seconds-spec : {M : Type 1} → statement M
 unfolding secondsIn
 day-seconds-spec =
@@ -20,5 +25,5 @@ day-seconds-spec =
     (tie.spec
     (λ c κs. search needs)
     (λ c. let s = c .before .before in record { fits = omega (arith, minute-is c, last-range (s .args .here) (s .args .next)) })
-    (λ c. cond-yes _ (c .before .if1 .taken) (ap (λ (n : ℕ). 86340 + n) (minute-is c)))
+    returns
     (λ c. cond-rest _ (c .if1 .left) refl))

@@ -54,6 +54,22 @@ module _ (c : tie.Start) where
     unfolding answer instantOn
     fine q = passed _ years (passed _ (le-leb _ _ q) refl)
 
+-- named, so that a fault of the mark or of a test shows where what it calls has one too
+returns-2 : tie.Need-returns-2
+unfolding answer
+returns-2 c = let e = c .before .before in let s = e .before in c .refused-instant2 .ensures ∙ ap (marked s) (late s (e .if1 .left) (c .before .if2 .taken))
+
+returns-4 : tie.Need-returns-4
+unfolding answer
+returns-4 c =
+    let g = c .before .before .before in
+    let f = g .before in
+    let s = f .before .before in
+    ap₂ (λ (a : InstantAnswer) (b : Bool). record { answer = a; beyond = b })
+    (ap At (toZ-ofZ (sfits-of (c .before .instant .ok)) ∙ read1 (λ (z : ℤ). toInstant (s .args .scale) (axisAt (86400000000 * number s + s .args .micro) z)) (record { sfits = c .before .before .struct-told .given .1 .1 .0 .1 }) (c .before .instant .ensures)))
+    (c .beyond-on .ensures)
+    ∙ ap (marked s) (fine s (f .before .if1 .left) (f .if2 .left) (g .if3 .left))
+
 pub instant-on-spec : {M : Type 1} → statement M
 unfolding answer
 instant-on-spec =
@@ -62,18 +78,11 @@ instant-on-spec =
     (λ c κs. search needs)
     (λ c. let s = c .before .before in c .refused-instant .ensures ∙ ap (marked s) (early s (c .before .if1 .taken)))
     (λ c κs. search needs)
-    (λ c. let e = c .before .before in let s = e .before in c .refused-instant2 .ensures ∙ ap (marked s) (late s (e .if1 .left) (c .before .if2 .taken)))
+    returns-2
     (λ c κs. search needs)
     (λ c. let f = c .before .before in let s = f .before .before in c .refused-instant3 .ensures ∙ ap (marked s) (long s (f .before .if1 .left) (f .if2 .left) (c .before .if3 .taken)))
     (λ c. search needs)
     (λ c. search needs)
     (λ c κs. search needs)
     (λ c κs. search needs)
-    (λ c.
-    let g = c .before .before .before in
-    let f = g .before in
-    let s = f .before .before in
-    ap₂ (λ (a : InstantAnswer) (b : Bool). record { answer = a; beyond = b })
-    (ap At (toZ-ofZ (sfits-of (c .before .instant .ok)) ∙ read1 (λ (z : ℤ). toInstant (s .args .scale) (axisAt (86400000000 * number s + s .args .micro) z)) (record { sfits = c .before .before .struct-told .given .1 .1 .0 .1 }) (c .before .instant .ensures)))
-    (c .beyond-on .ensures)
-    ∙ ap (marked s) (fine s (f .before .if1 .left) (f .if2 .left) (g .if3 .left))))
+    returns-4)
