@@ -1,18 +1,20 @@
--- Days and their lengths: 86,399 to 86,401 seconds, on a uniform scale 86,400; the month of a label's day, and the day of a place.
+-- Days and their lengths: 86,399 to 86,401 seconds, on a uniform scale 86,400; the month of a label's day, the day of a place, and what lies between two midnights.
 -- Assumes nothing.
 use mathlib.Core.Path.{_≡_, refl, ap, subst}
 use mathlib.Core.Bool.{Bool}
 use Prim.Native.Nat.{ℕ, _+_, _-_, _*_, _≤_}
 use native.Mathlib.Omega.{arith}
-use borrow.Author.Tests.{eqb-true, eq-eqb, leb-true, le-leb}
+use borrow.Author.Tests.{eqb-true, eqb-false, eq-eqb, leb-true, le-leb}
 use lib.Dec.{eqb, leb}
 use lib.IntN.{ℤ}
 use lib.Signed.{ltZ}
-use Rattle.laws.proofs.Cases.{pick, by-truth}
+use Rattle.laws.proofs.Cases.{pick, by-order, by-truth}
+use Rattle.laws.proofs.Difference.{up, down}
+use Rattle.laws.proofs.Offsets.{Steps}
 use Rattle.months.specs.Months.{daysBefore, monthLength}
 use Rattle.months.proofs.Laws.{days-next, length-least}
 use Rattle.calendar.specs.Days.{monthOfDay}
-use Rattle.calendar.proofs.Days.{month-is}
+use Rattle.calendar.proofs.Days.{in-month, month-is}
 use Rattle.labels.specs.declared.Label.{Label}
 use Rattle.labels.specs.declared.Place.{Place}
 use Rattle.labels.specs.Labels.{Offsets, uniform, lastMinute, monthOf}
@@ -20,6 +22,7 @@ use Rattle.labels.specs.Seconds.{dayCount, timeOfDay}
 use Rattle.labels.specs.Lengths.{secondsIn, daySeconds}
 use Rattle.labels.specs.Back.{dayOf, inDay, since, placeIn, labelOf}
 use Rattle.labels.proofs.Facts.{place-month}
+use Rattle.labels.proofs.Turn.{turn}
 
 pub last-range : (x z : ℤ) → (59 ≤ lastMinute x z) × (lastMinute x z ≤ 61)
 unfolding lastMinute
@@ -67,3 +70,30 @@ module _ (o : Offsets) (s m : ℕ) where
       (λ e. le-leb (86400 * (monthLength m - 1)) r (omega (arith, eqb-true (d + 1) (daysBefore (m + 1)) e, days-next m, length-least m))) in
       subst (λ (k : ℕ). secondsIn (leb (86400 * (monthLength m - 1)) r) (o m) (o (m + 1)) ≡ secondsIn (eqb (d + 1) (daysBefore (k + 1))) (o k) (o (k + 1))) place-falls
       (ap (λ (b : Bool). secondsIn b (o m) (o (m + 1))) last)
+
+-- ---- from a midnight to the next
+
+module _ (d : ℕ) where
+  abbrev n : ℕ
+  n = monthOfDay d
+
+  -- behind a month's last day the next month
+  pub next-month : d + 1 ≡ daysBefore (monthOfDay d + 1) → monthOfDay d + 1 ≡ monthOfDay (d + 1)
+  next-month e = month-is (d + 1) (n + 1) (omega arith, omega (arith, days-next (n + 1), length-least (n + 1)))
+
+  pub same-month : (d + 1 ≡ daysBefore (monthOfDay d + 1) → ⊥) → monthOfDay d ≡ monthOfDay (d + 1)
+  same-month other =
+      let f = in-month d in
+      month-is (d + 1) n (omega arith, by-order (d + 1) (daysBefore (n + 1)) (λ h. h) (λ h. absurd (other (omega arith))))
+
+  -- on the axis the day's own seconds lie between them
+  pub next-midnight : (o : Offsets) → Steps o → 86400 * (d + 1) + (up (o (monthOfDay (d + 1))) + down (o (monthOfDay d))) ≡ 86400 * d + (daySeconds o d + (up (o (monthOfDay d)) + down (o (monthOfDay (d + 1)))))
+  unfolding secondsIn
+  next-midnight o st =
+      pick (λ (s : ℕ). 86400 * (d + 1) + (up (o (monthOfDay (d + 1))) + down (o n)) ≡ 86400 * d + (s + (up (o n) + down (o (monthOfDay (d + 1)))))) (eqb (d + 1) (daysBefore (n + 1)))
+      (λ b.
+      let e = next-month (eqb-true (d + 1) (daysBefore (n + 1)) b) in
+      omega (arith, turn (o n) (o (n + 1)) (st .by-one n), ap (λ (k : ℕ). up (o k)) e, ap (λ (k : ℕ). down (o k)) e))
+      (λ b.
+      let e = same-month (eqb-false (d + 1) (daysBefore (n + 1)) b) in
+      omega (arith, ap (λ (k : ℕ). up (o k)) e, ap (λ (k : ℕ). down (o k)) e))

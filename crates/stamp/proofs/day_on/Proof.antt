@@ -16,8 +16,9 @@ use Rattle.calendar.proofs.Days.{in-month}
 use Rattle.leap.specs.Leap.{tabled}
 use Rattle.labels.specs.Labels.{Offsets}
 use Rattle.labels.specs.Lengths.{daySeconds}
+use Rattle.labels.proofs.Lengths.{next-month, same-month}
 use Rattle.stamp.specs.Scales.{offsetsOf}
-use Rattle.stamp.proofs.Days.{next-month, same-month, spanned}
+use Rattle.stamp.proofs.Days.{spanned}
 use Rattle.stamp.proofs.day_on.Statement.{statement}
 use Rattle.stamp.proofs.day_on.Tie as tie
 
