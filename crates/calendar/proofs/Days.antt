@@ -1,4 +1,4 @@
--- A day falls in one month only, the one that the definition gives it.
+-- A day falls in one month only, the one that the definition gives it; and the month of the next day.
 -- Assumes nothing.
 use mathlib.Core.Path.{_≡_, refl}
 use mathlib.Core.Bool.{Bool, true, false, cond}
@@ -7,7 +7,8 @@ use native.Mathlib.Omega.{arith}
 use lib.Dec.{ltb}
 use borrow.Author.Tests.{ltb-true, ltb-false}
 use Rattle.months.specs.Months.{daysBefore}
-use Rattle.months.proofs.Laws.{length-least, rise, days-mono}
+use Rattle.laws.proofs.Cases.{by-order}
+use Rattle.months.proofs.Laws.{length-least, rise, days-mono, days-next}
 use Rattle.calendar.specs.Days.{monthOfDay}
 
 -- day d falls in month m
@@ -33,3 +34,14 @@ in-month (suc d) = next-month d (monthOfDay d) (ltb (suc d) (daysBefore (monthOf
 
 pub month-is : (d m : ℕ) → Falls d m → m ≡ monthOfDay d
 month-is d m f = one-month d m (monthOfDay d) f (in-month d)
+
+-- behind a month's last day the next month, and else the same
+module _ (d : ℕ) where
+  pub month-turns : d + 1 ≡ daysBefore (monthOfDay d + 1) → monthOfDay d + 1 ≡ monthOfDay (d + 1)
+  month-turns e = let m = monthOfDay d in month-is (d + 1) (m + 1) (omega arith, omega (arith, days-next (m + 1), length-least (m + 1)))
+
+  pub month-stays : (d + 1 ≡ daysBefore (monthOfDay d + 1) → ⊥) → monthOfDay d ≡ monthOfDay (d + 1)
+  month-stays other =
+      let m = monthOfDay d in
+      let f = in-month d in
+      month-is (d + 1) m (omega arith, by-order (d + 1) (daysBefore (m + 1)) (λ h. h) (λ h. absurd (other (omega arith))))

@@ -14,7 +14,7 @@ use Rattle.laws.proofs.Offsets.{Steps}
 use Rattle.labels.specs.declared.Label.{Label}
 use Rattle.labels.specs.Labels.{Offsets, label, monthOf, lastMinute, inLastMinute, minuteIn, minuteLength}
 use Rattle.labels.specs.Seconds.{secondOf, endMonth}
-use Rattle.labels.proofs.Turn.{turn, minute-range}
+use Rattle.labels.proofs.Turn.{turn, last-range}
 use Rattle.labels.proofs.Falls.{Begun}
 use Rattle.labels.proofs.Order.{Stands}
 use Rattle.labels.proofs.Labelled.{At}
@@ -58,7 +58,7 @@ module _ (o : Offsets) (st : Steps o) where
   begins-minute l s r z h =
       let m = monthOf l in
       ⊎-elim
-      (λ w. omega (arith, end-minute o l w, minute-range (o m) (o (m + 1)) (st .by-one m)))
+      (λ w. omega (arith, end-minute o l w, last-range (o m) (o (m + 1))))
       (λ w. omega arith)
       (other-minute o l)
 

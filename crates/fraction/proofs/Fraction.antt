@@ -1,17 +1,18 @@
 -- Laws of the definitions, for their callers.
--- To use: `half-is` where a value is known, `below-one` and `nearest-at` to pass to `nearestOf`, then `whole-most` and `is-nearest`.
+-- To use: `half-value` where a value is known, `below-one` and `nearest-at` to pass to `nearestOf`, then `whole-most` and `is-nearest`.
 -- Assumes nothing.
 use mathlib.Core.Path.{_≡_, refl, sym, ap, _∙_}
 use mathlib.Core.Bool.{true, false, not, _&&_, true≢false}
 use Prim.Native.Nat.{ℕ, _+_, _-_, _*_, _/_, _%_, _^_, _≤_, _<_}
-use native.Mathlib.Nat.{mod-lt, le-of-lt, suc-mul, mul-comm, mul-assoc, mul-left-comm, mul-le-mul-right, add-mul, one-mul, div-add-mod', div-lt-iff-lt-mul, le-of-suc-le-suc, mul-add-mod-self-right, mod-eq-of-lt}
+use native.Mathlib.Nat.{mod-lt, le-of-lt, suc-mul, mul-comm, mul-assoc, mul-left-comm, mul-le-mul-right, add-mul, one-mul, div-add-mod', div-lt-iff-lt-mul, le-of-suc-le-suc, mul-add-mod-self-right, mod-eq-of-lt, div-eq-of-lt-le}
 use native.Mathlib.Omega.{arith}
 use lib.IntN.{pos}
 use lib.Dec.{ltb, eqb}
 use lib.Ieee.{Float, nan, inf, fin, up, down, le, lt, eq}
 use lib.Ieee.Fits.{down-pos}
 use lib.Ieee.Scale.{finite}
-use lib.Ieee.Positive.{num, den, den-pos}
+use lib.Ieee.Exact.{HasValue}
+use lib.Ieee.Positive.{num, den, den-pos, value→cross}
 use borrow.Author.Tests.{eqb-true, eq-eqb, ne-eqb, ltb-true, lt-ltb, le-leb}
 use Rattle.laws.proofs.Branches.{cond-yes}
 use Rattle.laws.proofs.Cases.{by-order, and-l, and-r, join, by-truth}
@@ -22,7 +23,7 @@ use Rattle.fraction.specs.Fraction.{isFraction, isHalf, nearestOf, sizeB
 rest : (n d k s : ℕ) → n ≡ k * d + s → s < d → n % d ≡ s
 rest n d k s e h = ap (λ (z : ℕ). z % d) e ∙ mul-add-mod-self-right k d s ∙ mod-eq-of-lt h
 
-odd-times : (j d : ℕ) → (2 * j + 1) * d ≡ 2 * (j * d) + d
+pub odd-times : (j d : ℕ) → (2 * j + 1) * d ≡ 2 * (j * d) + d
 odd-times j d = simp (add-mul, mul-assoc, one-mul)
 
 half-rest : (n d : ℕ) → 0 < d → eqb (n % d * 2) d ≡ (eqb (2 * n % d) 0 && not (eqb (n % d) 0))
@@ -43,6 +44,15 @@ half-rest n d D =
 pub half-is : (x : Float) → eqb (num x % den x * 2) (den x) ≡ isHalf x
 unfolding isHalf
 half-is x = half-rest (num x) (den x) (den-pos x)
+
+-- such a value is a half, and so many are its whole number
+pub half-value : (x : Float) (j : ℕ) → HasValue x false (2 * j + 1) 2 → (isHalf x ≡ true) × (num x / den x ≡ j)
+half-value x j v =
+    let n = num x in
+    let d = den x in
+    let w : n * 2 ≡ 2 * (j * d) + d = value→cross x (2 * j + 1) 2 v ∙ odd-times j d in
+    let q : n / d ≡ j = div-eq-of-lt-le d (omega (arith, den-pos x)) (omega (arith, den-pos x, add-mul j 1 d)) in
+    (sym (half-is x) ∙ eq-eqb (n % d * 2) d (omega (arith, ap (λ (z : ℕ). z * d + n % d) q, div-add-mod' n d)), q)
 
 -- ---- sizes below 1
 

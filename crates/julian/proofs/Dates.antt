@@ -3,7 +3,7 @@
 use mathlib.Core.Path.{_≡_, refl, sym, ap, ap₂, subst, _∙_}
 use mathlib.Core.Bool.{true, false}
 use mathlib.Core.List.{[], _∷_, _++_}
-use Prim.Native.Nat.{ℕ, _+_, _≤_, _<_}
+use Prim.Native.Nat.{ℕ, _+_, _*_, _≤_, _<_}
 use native.Mathlib.Omega.{arith}
 use borrow.Author.Tests.{leb-true, le-leb, ltb-true, lt-ltb}
 use lib.Dec.{T, leb}
@@ -18,17 +18,19 @@ use Rattle.leap.specs.Leap.{accepted}
 use Rattle.leap.proofs.Facts.{accepted-to}
 use Rattle.labels.specs.declared.Reading.{Reading}
 use Rattle.labels.specs.Labels.{Offsets}
-use Rattle.labels.specs.Seconds.{dayCount, microOfDay}
-use Rattle.labels.proofs.Admitted.{Admitted, admitted-to, admitted-from}
+use Rattle.labels.specs.Seconds.{dayCount, microOfDay, firstDay, lastDay}
+use Rattle.labels.specs.Lengths.{dayMicros}
+use Rattle.labels.proofs.Admitted.{Admitted, admitted-to, admitted-from, admitted-again}
 use Rattle.labels.proofs.Lengths.{day-range}
 use Rattle.labels.proofs.Readings.{micro-less, day-between, reading-on}
+use Rattle.stamp.specs.declared.Scale.{Scale}
 use Rattle.stamp.specs.declared.Stamp.{Stamp}
 use Rattle.stamp.specs.declared.InstantAnswer.the-variants.{At, Refused as NoInstant}
 use Rattle.stamp.specs.declared.ShownAnswer.{ShownAnswer}
 use Rattle.stamp.specs.declared.ShownAnswer.the-variants.{Shown, Refused as NotShown}
 use Rattle.stamp.specs.Scales.{scaleOf, knownScale, scaleTests, offsetsOf, mostSecond, instantFor}
 use Rattle.stamp.specs.Back.{inRange, stampAt}
-use Rattle.stamp.specs.Days.{dayTime, shownOf, dayStart, firstDay, lastDay, instantAfter}
+use Rattle.stamp.specs.Days.{dayTime, shownOf, dayStart, instantAfter}
 use Rattle.stamp.specs.Promise.{Reads}
 use Rattle.stamp.proofs.Scales.{most-sixty, most-of}
 use Rattle.stamp.proofs.Days.{instant-by-day}
@@ -40,9 +42,8 @@ use Rattle.julian.specs.declared.JulianDate.{JulianDate}
 use Rattle.julian.specs.declared.JulianAnswer.{JulianAnswer}
 use Rattle.julian.specs.declared.JulianAnswer.the-variants.{Dated, Refused}
 use Rattle.julian.specs.Midnight.{midnightInYears, dayNumber}
-use Rattle.julian.specs.Dates.{dayMicros, pairOf, writeJulian, julianResults, nearestIn, sameDay, dayRead, microRead, readTests, readJulian}
-use Rattle.julian.specs.Parts.{pairIn}
-use Rattle.julian.specs.Promise.{IsPair, Stands}
+use Rattle.julian.specs.Dates.{pairAt, pairOf, writeJulian, julianResults, nearestIn, sameDay, dayRead, microRead, readTests, readJulian}
+use Rattle.julian.specs.Promise.{IsPair}
 use Rattle.julian.proofs.Years.{years}
 use Rattle.julian.proofs.Midnight.{midnight-fine, day-back, years-fine}
 
@@ -50,7 +51,7 @@ use Rattle.julian.proofs.Midnight.{midnight-fine, day-back, years-fine}
 
 -- the pair of what a scale shows
 abbrev pub dated : ShownAnswer → JulianAnswer
-dated (Shown d) = Dated (pairIn d)
+dated (Shown d) = Dated (pairAt (d .day) (d .micro) (1000000 * d .seconds))
 dated (NotShown why) = Refused why
 
 pub written : (t : Table) (x : ℤ) (k : ℕ) → dated (shownOf t x k) ≡ writeJulian t x k
@@ -101,11 +102,20 @@ given-by t k x p e r b =
     let g = write-given t k x p e .1 in
     record { known = g .known; fine = g .fine; reads = b; pair-is = same-pair (sym (write-from t k (g .known) (g .fine) r x b) ∙ e) }
 
+-- a reading that exists with a second up to 60 is one of the scale's own
+pub on-scale : (t : Table) → accepted t ≡ true → (s : Scale) (r : Reading) → Admitted (offsetsOf t s) 60 r → Admitted (offsetsOf t s) (mostSecond s) r
+on-scale t fine s r a = admitted-again (offsetsOf t s) 60 r a (mostSecond s) (r .micro) (most-of t (accepted-to t fine) s (r .label) (a .exists)) (a .on-clock .micro-high)
+
 -- ---- the day and the microsecond that a pair is read as
 
 -- each day is a whole that a double has parts of
 pub day-parts : (o : Offsets) (d : ℕ) → Parts (dayMicros o d)
 day-parts o d = parts (dayMicros o d) (omega (arith, day-range o d))
+
+-- a midnight of these years has a day of them
+pub day-years : (p : JulianDate) → midnightInYears (p .midnight) ≡ true → (firstDay ≤ dayNumber (p .midnight)) × (dayNumber (p .midnight) ≤ lastDay)
+unfolding dayNumber
+day-years p y = omega (arith, years (p .midnight) (subst T (sym y) tt) .range)
 
 module _ (o : Offsets) (p : JulianDate) where
   pub read-same : sameDay o p ≡ true → (dayRead o p ≡ dayNumber (p .midnight)) × (microRead o p ≡ nearestIn o p)
@@ -124,10 +134,7 @@ module _ (o : Offsets) (p : JulianDate) where
       (λ e. omega (arith, read-next e .1, day-range o (dayRead o p)))
 
   pub read-since : midnightInYears (p .midnight) ≡ true → firstDay ≤ dayRead o p
-  unfolding dayNumber
-  read-since y =
-      let f = years (p .midnight) (subst T (sym y) tt) .range in
-      by-test (sameDay o p) (λ e. omega (arith, read-same e .0)) (λ e. omega (arith, read-next e .0))
+  read-since y = by-test (sameDay o p) (λ e. omega (arith, read-same e .0, day-years p y)) (λ e. omega (arith, read-next e .0, day-years p y))
 
 -- ---- a reading's own pair
 
@@ -145,7 +152,7 @@ module _ (t : Table) (k : ℕ) (r : Reading) where
     pub in-its-day : microOfDay r < dayMicros (offsetsOf t (scaleOf k)) (dayCount (r .label))
     in-its-day = micro-less o (mostSecond (scaleOf k)) (most-sixty (scaleOf k) .1) r a
 
-    pub pair-fine : IsPair (pairOf (offsetsOf t (scaleOf k)) r)
+    pair-fine : IsPair (pairOf (offsetsOf t (scaleOf k)) r)
     pair-fine =
         record {
           is-midnight = midnight-fine d (in-days .0) (in-days .1);
@@ -160,13 +167,20 @@ module _ (t : Table) (k : ℕ) (r : Reading) where
     micro-same = ap (λ (n : ℕ). nearestOf (dayMicros o n) (pairOf o r .fraction)) day-same ∙ day-parts o d .comes-back (microOfDay r) in-its-day
 
     -- is read as its day and its microsecond
-    pub pair-read : (dayCount (r .label) ≡ dayRead (offsetsOf t (scaleOf k)) (pairOf (offsetsOf t (scaleOf k)) r)) × (microOfDay r ≡ microRead (offsetsOf t (scaleOf k)) (pairOf (offsetsOf t (scaleOf k)) r))
+    pair-read : (dayCount (r .label) ≡ dayRead (offsetsOf t (scaleOf k)) (pairOf (offsetsOf t (scaleOf k)) r)) × (microOfDay r ≡ microRead (offsetsOf t (scaleOf k)) (pairOf (offsetsOf t (scaleOf k)) r))
     pair-read =
         let p = pairOf o r in
         let q = read-same o p (lt-ltb (nearestIn o p) (dayMicros o (dayNumber (p .midnight))) (omega (arith, micro-same, in-its-day, ap (dayMicros o) day-same))) in
         (sym (q .0 ∙ day-same), sym (q .1 ∙ micro-same))
 
 -- ---- what a pair is read as
+
+-- the instant x is that of a reading on the day and with the microsecond that the pair is read as
+pub record ReadOn (t : Table) (k : ℕ) (p : JulianDate) (x : ℤ) : Type 0 where
+  pub reading : Reading
+  pub reads : Reads t (scaleOf k) reading x
+  pub day-is : dayCount (reading .label) ≡ dayRead (offsetsOf t (scaleOf k)) p
+  pub micro-is : microOfDay reading ≡ microRead (offsetsOf t (scaleOf k)) p
 
 module _ (t : Table) (k : ℕ) (p : JulianDate) (x : ℤ) where
   abbrev o′ : Offsets
@@ -181,7 +195,7 @@ module _ (t : Table) (k : ℕ) (p : JulianDate) (x : ℤ) where
   by-day r a e f =
       instant-by-day t (scaleOf k) r (a .exists .day-low) (a .exists .day-high) ∙ ap₂ (λ (n u : ℕ). instantAfter (scaleOf k) (dayStart o′ n) u) e f
 
-  pub read-given : readJulian t k p ≡ At x → (knownScale k ≡ true) × (accepted t ≡ true) × IsPair p × Stands t k p x
+  pub read-given : readJulian t k p ≡ At x → (knownScale k ≡ true) × (accepted t ≡ true) × IsPair p × ReadOn t k p x
   unfolding readJulian instant
   read-given e =
       let g = was-passed NoInstant (scaleTests t k ++ readTests o′ p) _ (At x) (no-instant x) e in
@@ -192,9 +206,7 @@ module _ (t : Table) (k : ℕ) (p : JulianDate) (x : ℤ) where
       let found = reading-on o′ (dayRead o′ p) (microRead o′ p) (read-since o′ p years) (leb-true (dayRead o′ p) lastDay range) (read-less o′ p) in
       let r = found .0 in
       let s = found .1 in
-      let c = s .on-clock in
-      let most = most-of t (accepted-to t fine) (scaleOf k) (r .label) (s .exists) in
-      let a : Admitted o′ (mostSecond (scaleOf k)) r = record { since-1972 = s .since-1972; until-9999 = s .until-9999; exists = s .exists; on-clock = record { hour-high = c .hour-high; minute-high = c .minute-high; second-most = most; micro-high = c .micro-high } } in (
+      let a = on-scale t fine (scaleOf k) r s in (
         search (and-l),
         fine,
         record { is-midnight = search (and-l, and-r); is-fraction = search (and-l, and-r); in-years = years },
@@ -209,7 +221,7 @@ module _ (t : Table) (k : ℕ) (p : JulianDate) (x : ℤ) where
       same-instant : {y : ℤ} → At y ≡ At x → y ≡ x
       same-instant q = cc
 
-  pub read-from : knownScale k ≡ true → accepted t ≡ true → IsPair p → Stands t k p x → readJulian t k p ≡ At x
+  pub read-from : knownScale k ≡ true → accepted t ≡ true → IsPair p → ReadOn t k p x → readJulian t k p ≡ At x
   unfolding readJulian instant
   read-from known fine i s =
       let r = s .reading in

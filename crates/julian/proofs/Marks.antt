@@ -11,9 +11,9 @@ use Rattle.labels.proofs.Lengths.{label-falls}
 use Rattle.stamp.specs.Scales.{scaleOf, offsetsOf, mostSecond}
 use Rattle.julian.specs.declared.JulianDate.{JulianDate}
 use Rattle.julian.specs.Dates.{dayRead}
-use Rattle.julian.specs.Promise.{Stands}
+use Rattle.julian.proofs.Dates.{ReadOn}
 
-pub month-read : (t : Table) (k : ℕ) (p : JulianDate) (x : ℤ) (s : Stands t k p x) → monthOf (s .reading .label) ≡ monthOfDay (dayRead (offsetsOf t (scaleOf k)) p)
+pub month-read : (t : Table) (k : ℕ) (p : JulianDate) (x : ℤ) (s : ReadOn t k p x) → monthOf (s .reading .label) ≡ monthOfDay (dayRead (offsetsOf t (scaleOf k)) p)
 month-read t k p x s =
     let o : Offsets = offsetsOf t (scaleOf k) in
     let a = admitted-to o (mostSecond (scaleOf k)) (s .reading) (s .reads .is-admitted) in

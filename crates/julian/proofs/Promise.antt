@@ -14,22 +14,22 @@ use Rattle.answer.specs.Refusals.{refusing}
 use Rattle.leap.specs.declared.Table.{Table}
 use Rattle.leap.specs.Leap.{accepted}
 use Rattle.labels.specs.declared.Reading.{Reading}
-use Rattle.labels.specs.Seconds.{dayCount, microOfDay}
+use Rattle.labels.specs.Seconds.{dayCount, microOfDay, lastDay}
+use Rattle.labels.specs.Lengths.{dayMicros}
 use Rattle.labels.proofs.Admitted.{Admitted, admitted-to}
 use Rattle.stamp.specs.declared.InstantAnswer.the-variants.{At, Refused}
 use Rattle.stamp.specs.Scales.{scaleOf, knownScale, mostSecond}
 use Rattle.stamp.specs.Stamps.{instantResults}
-use Rattle.stamp.specs.Days.{lastDay}
 use Rattle.stamp.proofs.Promise.{at-instant}
 use Rattle.fraction.specs.Fraction.{isFraction, isHalf, nearestOf}
-use Rattle.fraction.proofs.Fraction.{is-nearest}
 use Rattle.julian.specs.declared.JulianDate.{JulianDate}
 use Rattle.julian.specs.declared.JulianAnswer.the-variants.{Dated}
 use Rattle.julian.specs.Midnight.{midnightInYears, dayNumber}
-use Rattle.julian.specs.Dates.{dayMicros, julianResults, dayRead, microRead, readJulian}
+use Rattle.julian.specs.Dates.{julianResults, dayRead, microRead, readJulian}
 use Rattle.julian.specs.Promise.{Writes, ReadAs, ReadRefused, offsetsOn, Near, Pairs}
 use Rattle.julian.proofs.Midnight.{midnight-value}
 use Rattle.julian.proofs.Dates.{at-pair, Given, write-given, write-from, given-by, day-parts, in-days, in-its-day, read-given, read-from, own-back}
+use Rattle.julian.proofs.Stands.{stands-to, stands-from}
 use Rattle.julian.proofs.Uniform.{pair-even, stands-even, even-stands}
 
 near : (t : Table) (k : ℕ) (x : ℤ) (p : JulianDate) (r : Reading) → Given t k x p r → Near p (dayCount (r .label)) (microOfDay r) (dayMicros (offsetsOn t k) (dayCount (r .label)))
@@ -77,10 +77,10 @@ module _ (t : Table) where
         );
         written-near = λ k x p r w b. near t k x p r (given-by t k x p (at-pair _ p w) r b);
         read-exactly = λ k p x. (
-          λ e. let g = read-given t k p x (at-instant _ x e) in (leb-true k 3 (g .0), g .1, g .2, g .3),
-          λ g. ap instantResults (read-from t k p x (le-leb k 3 (g .0)) (g .1) (g .2) (g .3)),
+          λ e. let g = read-given t k p x (at-instant _ x e) in (leb-true k 3 (g .0), g .1, g .2, stands-to t k p (g .1) (g .2) x (g .3)),
+          λ g. ap instantResults (read-from t k p x (le-leb k 3 (g .0)) (g .1) (g .2) (stands-from t k p (g .1) (g .2) x (g .3))),
         );
-        read-nearest = λ k p. is-nearest (dayMicros (offsetsOn t k) (dayNumber (p .midnight))) (p .fraction);
+        read-nearest = λ k p. day-parts (offsetsOn t k) (dayNumber (p .midnight)) .nearest (p .fraction);
         no-six = no-six t;
         minus-zero = minus-zero t;
         comes-back = back;

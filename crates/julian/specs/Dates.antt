@@ -1,8 +1,9 @@
--- The pair of doubles that is written for an instant, and the instant that a pair is read as: the calls. `Pairs` of Promise says exactly when each is given.
+-- The pair of a reading, the microseconds that a pair is read as, and the calls. The promise speaks of `pairOf` and `nearestIn`; what a call does with them need not be believed:
+-- `Pairs` of Promise says exactly when each answer is given.
 -- Assumes nothing.
 use mathlib.Core.Bool.{Bool, false, cond}
 use mathlib.Core.List.{List, [], _∷_, _++_}
-use Prim.Native.Nat.{ℕ, _+_, _*_}
+use Prim.Native.Nat.{ℕ, _+_}
 use lib.Dec.{leb, ltb}
 use lib.IntN.{ℤ, pos}
 use lib.Ieee.{fin}
@@ -12,28 +13,29 @@ use Rattle.answer.specs.Refusals.{number, refusing}
 use Rattle.leap.specs.declared.Table.{Table}
 use Rattle.labels.specs.declared.Reading.{Reading}
 use Rattle.labels.specs.Labels.{Offsets}
-use Rattle.labels.specs.Seconds.{dayCount, microOfDay}
-use Rattle.labels.specs.Lengths.{daySeconds}
+use Rattle.labels.specs.Seconds.{dayCount, microOfDay, lastDay}
+use Rattle.labels.specs.Lengths.{dayMicros}
+use Rattle.stamp.specs.declared.Scale.{Scale}
 use Rattle.stamp.specs.declared.InstantAnswer.{InstantAnswer}
 use Rattle.stamp.specs.declared.InstantAnswer.the-variants.{At, Refused as NoInstant}
 use Rattle.stamp.specs.Scales.{scaleOf, scaleTests, offsetsOf}
 use Rattle.stamp.specs.Back.{inRange, stampAt}
-use Rattle.stamp.specs.Days.{dayStart, lastDay, instantAfter}
+use Rattle.stamp.specs.Days.{dayStart, instantAfter}
 use Rattle.fraction.specs.Fraction.{fractionOf, isFraction, isHalf, nearestOf}
 use Rattle.julian.specs.declared.JulianDate.{JulianDate}
 use Rattle.julian.specs.declared.JulianAnswer.{JulianAnswer}
 use Rattle.julian.specs.declared.JulianAnswer.the-variants.{Dated, Refused}
 use Rattle.julian.specs.Midnight.{midnightOf, midnightInYears, dayNumber}
 
--- the microseconds of day d, counted from 1 January of year 0
-abbrev pub dayMicros : Offsets → ℕ → ℕ
-dayMicros o d = 1000000 * daySeconds o d
-
 -- ---- written
 
--- the pair of a reading: the midnight of its day, and the microsecond of the day over that day's own length
+-- the pair of microsecond u of day d, which has so many
+abbrev pub pairAt : ℕ → ℕ → ℕ → JulianDate
+pairAt d u length = record { midnight = midnightOf d; fraction = fractionOf length u }
+
+-- of a reading: the midnight of its day, and the microsecond of the day over that day's own length
 abbrev pub pairOf : Offsets → Reading → JulianDate
-pairOf o r = record { midnight = midnightOf (dayCount (r .label)); fraction = fractionOf (dayMicros o (dayCount (r .label))) (microOfDay r) }
+pairOf o r = pairAt (dayCount (r .label)) (microOfDay r) (dayMicros o (dayCount (r .label)))
 
 -- `write_julian`, without its mark; `stampAt` is the way back, which need not be believed
 unfoldable pub writeJulian : Table → ℤ → ℕ → JulianAnswer
@@ -72,8 +74,11 @@ microRead o p = cond (sameDay o p) (nearestIn o p) 0
 abbrev pub readTests : Offsets → JulianDate → List (Bool × Refusal)
 readTests o p = pairTests p ++ (leb (dayRead o p) lastDay, RANGE) ∷ []
 
+abbrev pub readIn : Table → Scale → JulianDate → InstantAnswer
+readIn t s p =
+    let o = offsetsOf t s in
+    refusing NoInstant (readTests o p) (At (instantAfter s (dayStart o (dayRead o p)) (microRead o p)))
+
 -- `read_julian`, without its mark
 unfoldable pub readJulian : Table → ℕ → JulianDate → InstantAnswer
-readJulian t k p =
-    let o = offsetsOf t (scaleOf k) in
-    refusing NoInstant (scaleTests t k ++ readTests o p) (At (instantAfter (scaleOf k) (dayStart o (dayRead o p)) (microRead o p)))
+readJulian t k p = refusing NoInstant (scaleTests t k) (readIn t (scaleOf k) p)

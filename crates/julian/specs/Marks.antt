@@ -6,6 +6,7 @@ use Prim.Native.Nat.{ℕ}
 use lib.IntN.{ℤ}
 use Rattle.calendar.specs.Days.{monthOfDay}
 use Rattle.leap.specs.declared.Table.{Table}
+use Rattle.stamp.specs.declared.Scale.{Scale}
 use Rattle.stamp.specs.declared.MarkedInstant.{MarkedInstant}
 use Rattle.stamp.specs.Scales.{scaleOf, offsetsOf}
 use Rattle.stamp.specs.Marks.{beyondOn, beyondAt, markedInstant}
@@ -13,7 +14,7 @@ use Rattle.julian.specs.declared.JulianDate.{JulianDate}
 use Rattle.julian.specs.declared.JulianAnswer.{JulianAnswer}
 use Rattle.julian.specs.declared.JulianAnswer.the-variants.{Dated, Refused}
 use Rattle.julian.specs.declared.MarkedPair.{MarkedPair}
-use Rattle.julian.specs.Dates.{writeJulian, dayRead, readJulian}
+use Rattle.julian.specs.Dates.{writeJulian, dayRead, readIn, readJulian}
 
 abbrev pub markedPair : JulianAnswer → Bool → MarkedPair
 markedPair a b = record { answer = a; beyond = mark a }
@@ -26,6 +27,14 @@ markedPair a b = record { answer = a; beyond = mark a }
 abbrev pub writeJulianMarked : Table → ℤ → ℕ → MarkedPair
 writeJulianMarked t x k = markedPair (writeJulian t x k) (beyondAt t (scaleOf k) x)
 
--- `read_julian`: the month of the day that is read
+-- the month of the day that a pair is read as
+abbrev pub beyondRead : Table → Scale → JulianDate → Bool
+beyondRead t s p = beyondOn (t .vouched) s (monthOfDay (dayRead (offsetsOf t s) p))
+
+-- `read_in`, where scale and table were asked for
+abbrev pub readInMarked : Table → Scale → JulianDate → MarkedInstant
+readInMarked t s p = markedInstant (readIn t s p) (beyondRead t s p)
+
+-- `read_julian`
 abbrev pub readJulianMarked : Table → ℕ → JulianDate → MarkedInstant
-readJulianMarked t k p = markedInstant (readJulian t k p) (beyondOn (t .vouched) (scaleOf k) (monthOfDay (dayRead (offsetsOf t (scaleOf k)) p)))
+readJulianMarked t k p = markedInstant (readJulian t k p) (beyondRead t (scaleOf k) p)

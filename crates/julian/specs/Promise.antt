@@ -5,7 +5,7 @@ use mathlib.Core.Path.{_≡_}
 use mathlib.Core.Logic.{_↔_}
 use mathlib.Core.Bool.{true, false}
 use Prim.Native.Nat.{ℕ, _+_, _*_, _/_, _%_, _≤_}
-use lib.IntN.{ℤ, pos}
+use lib.IntN.{ℤ, pos, _+ℤ_}
 use lib.Ieee.{Float, fin}
 use lib.Ieee.Exact.{HasValue}
 use Rattle.leap.specs.declared.Table.{Table}
@@ -13,13 +13,14 @@ use Rattle.leap.specs.Leap.{accepted}
 use Rattle.labels.specs.declared.Reading.{Reading}
 use Rattle.labels.specs.Labels.{Offsets}
 use Rattle.labels.specs.Seconds.{dayCount, microOfDay, microOf}
+use Rattle.labels.specs.Lengths.{dayMicros}
 use Rattle.stamp.specs.Scales.{scaleOf, offsetsOf}
 use Rattle.stamp.specs.Stamps.{instantResults}
 use Rattle.stamp.specs.Promise.{Reads}
-use Rattle.fraction.specs.Fraction.{fractionOf, isFraction, isHalf, nearestOf, Close, Nearest}
+use Rattle.fraction.specs.Fraction.{isFraction, isHalf, nearestOf, Close, Nearest}
 use Rattle.julian.specs.declared.JulianDate.{JulianDate}
-use Rattle.julian.specs.Midnight.{midnightOf, midnightInYears, dayNumber}
-use Rattle.julian.specs.Dates.{dayMicros, pairOf, writeJulian, julianResults, nearestIn, dayRead, microRead, readJulian}
+use Rattle.julian.specs.Midnight.{midnightInYears, dayNumber}
+use Rattle.julian.specs.Dates.{pairAt, pairOf, writeJulian, julianResults, nearestIn, readJulian}
 
 -- `write_julian` gives the pair p for the instant x on scale number k, and `read_julian` the instant x for p
 abbrev pub Writes : Table → ℕ → ℤ → JulianDate → Type 0
@@ -47,32 +48,36 @@ pub record IsPair (p : JulianDate) : Type 0 where
   pub is-fraction : isFraction (p .fraction) ≡ true
   pub in-years : midnightInYears (p .midnight) ≡ true
 
--- the instant x is that of a reading on the day and with the microsecond that the pair is read as
+-- the instant x has a reading, and lies as many microseconds after the pair's midnight as the fraction is nearest to
 pub record Stands (t : Table) (k : ℕ) (p : JulianDate) (x : ℤ) : Type 0 where
   pub reading : Reading
   pub reads : Reads t (scaleOf k) reading x
-  pub day-is : dayCount (reading .label) ≡ dayRead (offsetsOn t k) p
-  pub micro-is : microOfDay reading ≡ microRead (offsetsOn t k) p
+  pub midnight : Reading
+  pub begins : ℤ
+  pub midnight-reads : Reads t (scaleOf k) midnight begins
+  pub its-day : dayCount (midnight .label) ≡ dayNumber (p .midnight)
+  pub its-beginning : microOfDay midnight ≡ 0
+  pub after-it : x ≡ begins +ℤ pos (nearestIn (offsetsOn t k) p)
 
--- ---- as it was while every day counted 86,400 seconds: the microsecond u from year 0 has this pair, and p is read as this microsecond
+-- ---- where every day has 86,400 seconds: the microsecond u from year 0 has this pair, and p is read as this microsecond
 
-abbrev pub day : ℕ
-day = 86400000000
+abbrev pub evenDay : ℕ
+evenDay = 86400000000
 
 abbrev pub evenPair : ℕ → JulianDate
-evenPair u = record { midnight = midnightOf (u / day); fraction = fractionOf day (u % day) }
+evenPair u = pairAt (u / evenDay) (u % evenDay) evenDay
 
 abbrev pub evenMicro : JulianDate → ℕ
-evenMicro p = day * dayNumber (p .midnight) + nearestOf day (p .fraction)
+evenMicro p = evenDay * dayNumber (p .midnight) + nearestOf evenDay (p .fraction)
 
 -- under one table
 pub record Pairs (t : Table) : Type 0 where
   -- a pair is written exactly when a reading stands for the instant, and it is that of the reading's day and of its microsecond over the day's own length
   pub written-exactly : (k : ℕ) (x : ℤ) (p : JulianDate) → Writes t k x p ↔ ((k ≤ 3) × (accepted t ≡ true) × ((r : Reading) × Reads t (scaleOf k) r x × (p ≡ pairOf (offsetsOn t k) r)))
   pub written-near : (k : ℕ) (x : ℤ) (p : JulianDate) (r : Reading) → Writes t k x p → Reads t (scaleOf k) r x → Near p (dayCount (r .label)) (microOfDay r) (dayMicros (offsetsOn t k) (dayCount (r .label)))
-  -- a pair is read exactly when it is one and a reading stands there
+  -- a pair is read exactly when it is one and an instant that has a reading lies so many microseconds after its midnight
   pub read-exactly : (k : ℕ) (p : JulianDate) (x : ℤ) → ReadAs t k p x ↔ ((k ≤ 3) × (accepted t ≡ true) × IsPair p × Stands t k p x)
-  -- the microseconds after the midnight are those nearest to the double's exact value, a tie to the later
+  -- so many are those of the midnight's own day that are nearest to the double's exact value, a tie to the later
   pub read-nearest : (k : ℕ) (p : JulianDate) → Nearest (dayMicros (offsetsOn t k) (dayNumber (p .midnight))) (p .fraction) (nearestIn (offsetsOn t k) p)
   -- no pair is refused with NOSECOND, 6
   pub no-six : (k : ℕ) (p : JulianDate) → ReadRefused t k p 6 → ⊥

@@ -2,11 +2,12 @@
 // Between a pair and an instant stand a day, counted from year 0, and a microsecond of it: the fraction is of that day's own length.
 ghost use mathlib.Core.Path.{_≡_};
 ghost use mathlib.Core.Bool.{false};
+ghost use Prim.Native.Nat.{_*_};
 ghost use lib.Dec.{T};
 ghost use Rattle.leap.specs.Leap.{tabled, vouchedTo};
 ghost use Rattle.julian.specs.Midnight.{midnightInYears, dayNumber};
-ghost use Rattle.julian.specs.Marks.{markedPair, writeJulianMarked, readJulianMarked};
-ghost use Rattle.julian.specs.Parts.{pairIn, readInMarked};
+ghost use Rattle.julian.specs.Dates.{pairAt};
+ghost use Rattle.julian.specs.Marks.{markedPair, writeJulianMarked, readInMarked, readJulianMarked};
 use answer::Refusal;
 use leap::Table;
 use stamp::DayTime;
@@ -39,7 +40,7 @@ const YEAR_0: u64 = 1721059;
 
 // The fraction is one rounded division.
 fn pair_of(d: DayTime) -> JulianDate
-    ensures { λ r. ⌜ r ≡ pairIn d ⌝ }
+    ensures { λ r. ⌜ r ≡ pairAt (d .day) (d .micro) (1000000 * d .seconds) ⌝ }
 {
     let midnight = std::num::nearest_u64_to_f64(YEAR_0 + d.day as u64) + 0.5;
     let fraction = fraction::fraction_of(d.micro, 1000000 * d.seconds as u64);

@@ -42,3 +42,9 @@ admitted-from o most r a =
     (join (join (le-leb _ _ (a .exists .day-low)) (le-leb _ _ (a .exists .day-high)))
     (join (join (le-leb _ _ (a .exists .hour-high)) (join (le-leb _ _ (a .exists .minute-high)) (join (le-leb _ _ (a .on-clock .second-most)) (le-leb _ _ (a .on-clock .micro-high)))))
     (join (lt-ltb _ _ (a .exists .second-high)) refl))))
+
+-- the same label with another microsecond, where its second may be no higher than another one
+pub admitted-again : (o : Offsets) (most : ℕ) (r : Reading) → Admitted o most r → (next micro : ℕ) → r .label .second ≤ next → micro ≤ 999999 → Admitted o next (record { label = r .label; micro = micro })
+admitted-again o most r a next micro s u =
+    let k = a .on-clock in
+    record { since-1972 = a .since-1972; until-9999 = a .until-9999; exists = a .exists; on-clock = record { hour-high = k .hour-high; minute-high = k .minute-high; second-most = s; micro-high = u } }

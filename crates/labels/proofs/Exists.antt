@@ -17,7 +17,7 @@ use Rattle.labels.specs.Labels.{Offsets, uniform, label, lastMinute, mon
 use Rattle.labels.specs.Seconds.{secondOf}
 use Rattle.labels.specs.Back.{minuteOf, dayOf, inDay, since, placeIn, labelOf}
 use Rattle.laws.proofs.Offsets.{Steps}
-use Rattle.labels.proofs.Turn.{turn, minute-range}
+use Rattle.labels.proofs.Turn.{turn, last-range}
 use Rattle.labels.proofs.Falls.{In, since-is}
 
 -- a label whose fields are in their ranges, and whose second its minute has
@@ -74,7 +74,7 @@ module _ (o : Offsets) (st : Steps o) (m s : ℕ) (i : In o m s) where
   parts =
       split m rest last
       (omega (arith, since-is o m s (i .begun), i .ends, days-next m, turn (o m) (o (m + 1)) (st .by-one m)))
-      (minute-range (o m) (o (m + 1)) (st .by-one m) .1)
+      (last-range (o m) (o (m + 1)) .1)
 
   month-is : monthOf shown ≡ m
   unfolding shown labelOf inDay
@@ -120,7 +120,7 @@ module _ (o : Offsets) (st : Steps o) (m s : ℕ) (i : In o m s) where
 
 pub second-few : (o : Offsets) → Steps o → (l : Label) → Exists o l → l .second ≤ 60
 second-few o st l e =
-    let r = minute-range (o (monthOf l)) (o (monthOf l + 1)) (st .by-one (monthOf l)) in
+    let r = last-range (o (monthOf l)) (o (monthOf l + 1)) in
     ⊎-elim (λ w. omega (arith, e .second-high)) (λ w. omega (arith, e .second-high))
     (minute-is (o (monthOf l)) (o (monthOf l + 1)) l (e .day-high) (e .hour-high) (e .minute-high))
 
@@ -133,7 +133,7 @@ module _ (o : Offsets) (st : Steps o) (l : Label) (e : Exists o l) (s : ℕ) (h 
   second-falls =
       record {
         begun = omega arith;
-        ends = ⊎-elim (λ w. omega (arith, days-next m, turn (o m) (o (m + 1)) (st .by-one m), e .second-high, minute-range (o m) (o (m + 1)) (st .by-one m)))
+        ends = ⊎-elim (λ w. omega (arith, days-next m, turn (o m) (o (m + 1)) (st .by-one m), e .second-high, last-range (o m) (o (m + 1))))
             (λ w. omega (arith, days-next m, turn (o m) (o (m + 1)) (st .by-one m), e .second-high))
             (minute-is (o m) (o (m + 1)) l (e .day-high) (e .hour-high) (e .minute-high));
       }

@@ -7,14 +7,13 @@ use native.Mathlib.Omega.{arith}
 use borrow.Author.Tests.{eqb-true, eqb-false, eq-eqb, leb-true, le-leb}
 use lib.Dec.{eqb, leb}
 use lib.IntN.{ℤ}
-use lib.Signed.{ltZ}
-use Rattle.laws.proofs.Cases.{pick, by-order, by-truth}
+use Rattle.laws.proofs.Cases.{pick, by-truth}
 use Rattle.laws.proofs.Difference.{up, down}
 use Rattle.laws.proofs.Offsets.{Steps}
 use Rattle.months.specs.Months.{daysBefore, monthLength}
 use Rattle.months.proofs.Laws.{days-next, length-least}
 use Rattle.calendar.specs.Days.{monthOfDay}
-use Rattle.calendar.proofs.Days.{in-month, month-is}
+use Rattle.calendar.proofs.Days.{month-is, month-turns, month-stays}
 use Rattle.labels.specs.declared.Label.{Label}
 use Rattle.labels.specs.declared.Place.{Place}
 use Rattle.labels.specs.Labels.{Offsets, uniform, lastMinute, monthOf}
@@ -22,14 +21,9 @@ use Rattle.labels.specs.Seconds.{dayCount, timeOfDay}
 use Rattle.labels.specs.Lengths.{secondsIn, daySeconds}
 use Rattle.labels.specs.Back.{dayOf, inDay, since, placeIn, labelOf}
 use Rattle.labels.proofs.Facts.{place-month}
-use Rattle.labels.proofs.Turn.{turn}
+use Rattle.labels.proofs.Turn.{turn, last-range}
 
-pub last-range : (x z : ℤ) → (59 ≤ lastMinute x z) × (lastMinute x z ≤ 61)
-unfolding lastMinute
-last-range x z =
-    pick (λ (n : ℕ). (59 ≤ n) × (n ≤ 61)) (ltZ x z) (λ e. omega arith) (λ e. pick (λ (n : ℕ). (59 ≤ n) × (n ≤ 61)) (ltZ z x) (λ e. omega arith) (λ e. omega arith))
-
-pub seconds-range : (b : Bool) (x z : ℤ) → (86399 ≤ secondsIn b x z) × (secondsIn b x z ≤ 86401)
+seconds-range : (b : Bool) (x z : ℤ) → (86399 ≤ secondsIn b x z) × (secondsIn b x z ≤ 86401)
 unfolding secondsIn
 seconds-range b x z = pick (λ (n : ℕ). (86399 ≤ n) × (n ≤ 86401)) b (λ e. omega (arith, last-range x z)) (λ e. omega arith)
 
@@ -55,7 +49,7 @@ module _ (o : Offsets) (s m : ℕ) where
   abbrev p : Place
   p = placeIn o s m
 
-  pub place-falls : m ≡ monthOfDay (dayCount (labelOf (placeIn o s m)))
+  place-falls : m ≡ monthOfDay (dayCount (labelOf (placeIn o s m)))
   place-falls = month-is (dayCount (labelOf p)) m (omega (arith, place-day p refl), omega (arith, place-day p refl, days-next m, length-least m))
 
   -- the seconds of that day: it is the last of its month where only what this leaves is left
@@ -73,27 +67,15 @@ module _ (o : Offsets) (s m : ℕ) where
 
 -- ---- from a midnight to the next
 
-module _ (d : ℕ) where
-  abbrev n : ℕ
-  n = monthOfDay d
-
-  -- behind a month's last day the next month
-  pub next-month : d + 1 ≡ daysBefore (monthOfDay d + 1) → monthOfDay d + 1 ≡ monthOfDay (d + 1)
-  next-month e = month-is (d + 1) (n + 1) (omega arith, omega (arith, days-next (n + 1), length-least (n + 1)))
-
-  pub same-month : (d + 1 ≡ daysBefore (monthOfDay d + 1) → ⊥) → monthOfDay d ≡ monthOfDay (d + 1)
-  same-month other =
-      let f = in-month d in
-      month-is (d + 1) n (omega arith, by-order (d + 1) (daysBefore (n + 1)) (λ h. h) (λ h. absurd (other (omega arith))))
-
-  -- on the axis the day's own seconds lie between them
-  pub next-midnight : (o : Offsets) → Steps o → 86400 * (d + 1) + (up (o (monthOfDay (d + 1))) + down (o (monthOfDay d))) ≡ 86400 * d + (daySeconds o d + (up (o (monthOfDay d)) + down (o (monthOfDay (d + 1)))))
-  unfolding secondsIn
-  next-midnight o st =
-      pick (λ (s : ℕ). 86400 * (d + 1) + (up (o (monthOfDay (d + 1))) + down (o n)) ≡ 86400 * d + (s + (up (o n) + down (o (monthOfDay (d + 1)))))) (eqb (d + 1) (daysBefore (n + 1)))
-      (λ b.
-      let e = next-month (eqb-true (d + 1) (daysBefore (n + 1)) b) in
-      omega (arith, turn (o n) (o (n + 1)) (st .by-one n), ap (λ (k : ℕ). up (o k)) e, ap (λ (k : ℕ). down (o k)) e))
-      (λ b.
-      let e = same-month (eqb-false (d + 1) (daysBefore (n + 1)) b) in
-      omega (arith, ap (λ (k : ℕ). up (o k)) e, ap (λ (k : ℕ). down (o k)) e))
+-- on the axis the day's own seconds lie between them
+pub next-midnight : (d : ℕ) (o : Offsets) → Steps o → 86400 * (d + 1) + (up (o (monthOfDay (d + 1))) + down (o (monthOfDay d))) ≡ 86400 * d + (daySeconds o d + (up (o (monthOfDay d)) + down (o (monthOfDay (d + 1)))))
+unfolding secondsIn
+next-midnight d o st =
+    let n = monthOfDay d in
+    pick (λ (s : ℕ). 86400 * (d + 1) + (up (o (monthOfDay (d + 1))) + down (o n)) ≡ 86400 * d + (s + (up (o n) + down (o (monthOfDay (d + 1)))))) (eqb (d + 1) (daysBefore (n + 1)))
+    (λ b.
+    let e = month-turns d (eqb-true (d + 1) (daysBefore (n + 1)) b) in
+    omega (arith, turn (o n) (o (n + 1)) (st .by-one n), ap (λ (k : ℕ). up (o k)) e, ap (λ (k : ℕ). down (o k)) e))
+    (λ b.
+    let e = month-stays d (eqb-false (d + 1) (daysBefore (n + 1)) b) in
+    omega (arith, ap (λ (k : ℕ). up (o k)) e, ap (λ (k : ℕ). down (o k)) e))

@@ -22,7 +22,8 @@ use Rattle.labels.specs.Promise.{hasLabel, date, realDate, LastDay, atEn
 use Rattle.labels.proofs.Facts.{year-to, month-to, day-to}
 use Rattle.labels.proofs.Exists.{minute-is, same-label}
 use Rattle.labels.proofs.Admitted.{Admitted, admitted-to}
-use Rattle.labels.proofs.Lengths.{last-range, label-falls}
+use Rattle.labels.proofs.Turn.{last-range}
+use Rattle.labels.proofs.Lengths.{label-falls}
 
 -- ---- the last minute of a month
 
@@ -142,18 +143,30 @@ own-length o l e =
     let q = eqb-false (dayCount l + 1) (daysBefore (m + 1)) b in
     has-seconds o l e 60 (omega arith) (omega arith) (λ h. absurd (q (omega (arith, days-next m)))) (λ h. refl)))
 
+-- ---- a day of the calendar's month m
+
+module _ (m d h mi s : ℕ) where
+  abbrev in-month : Label
+  in-month = label (m / 12) (m % 12 + 1) d h mi s
+
+  pub month-of : monthOf (label (m / 12) (m % 12 + 1) d h mi s) ≡ m
+  month-of = omega arith
+
+  pub is-real : firstMonth ≤ m → m ≤ lastMonth → 1 ≤ d → d ≤ monthLength m → realDate (label (m / 12) (m % 12 + 1) d h mi s) ≡ true
+  unfolding realYear realMonth realDay
+  is-real low high first last =
+      join (join (le-leb 1972 (m / 12) (omega arith)) (le-leb (m / 12) 9999 (omega arith)))
+      (join (join (le-leb 1 (m % 12 + 1) (omega arith)) (le-leb (m % 12 + 1) 12 (omega arith)))
+      (join (le-leb 1 d first) (le-leb d (monthLength (monthOf in-month)) (omega (arith, ap monthLength month-of)))))
+
 -- ---- the end of a month
 
 module _ (m s : ℕ) where
   end-month : monthOf (atEnd m s) ≡ m
-  end-month = omega arith
+  end-month = month-of m (monthLength m) 23 59 s
 
   end-real : firstMonth ≤ m → m ≤ lastMonth → realDate (atEnd m s) ≡ true
-  unfolding realYear realMonth realDay
-  end-real low high =
-      join (join (le-leb 1972 (m / 12) (omega arith)) (le-leb (m / 12) 9999 (omega arith)))
-      (join (join (le-leb 1 (m % 12 + 1) (omega arith)) (le-leb (m % 12 + 1) 12 (omega arith)))
-      (join (le-leb 1 (monthLength m) (omega (arith, length-least m))) (le-leb (monthLength m) (monthLength (monthOf (atEnd m s))) (omega (arith, ap monthLength end-month)))))
+  end-real low high = is-real m (monthLength m) 23 59 s low high (omega (arith, length-least m)) (omega arith)
 
   end-minute : (o : Offsets) → minuteLength o (atEnd m s) ≡ lastMinute (o m) (o (m + 1))
   end-minute o =

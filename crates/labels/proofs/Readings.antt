@@ -4,21 +4,20 @@ use mathlib.Core.Path.{_≡_, refl, ap, _∙_}
 use mathlib.Core.Bool.{true}
 use Prim.Native.Nat.{ℕ, _+_, _-_, _*_, _/_, _%_, _≤_, _<_}
 use native.Mathlib.Omega.{arith}
-use borrow.Author.Tests.{le-leb}
 use Rattle.laws.proofs.Cases.{and-l, and-r, join, by-order}
-use Rattle.months.specs.Months.{daysBefore, monthLength}
+use Rattle.months.specs.Months.{daysBefore}
 use Rattle.months.proofs.Laws.{days-1972, days-next, days-mono}
 use Rattle.calendar.specs.Days.{monthOfDay}
 use Rattle.calendar.proofs.Days.{in-month}
 use Rattle.labels.specs.declared.Label.{Label}
 use Rattle.labels.specs.declared.Reading.{Reading}
 use Rattle.labels.specs.Labels.{Offsets, label, whole, monthOf, realYear, realMonth, realDay}
-use Rattle.labels.specs.Seconds.{dayCount, microOfDay, firstMonth, lastMonth, endMonth}
-use Rattle.labels.specs.Lengths.{daySeconds}
+use Rattle.labels.specs.Seconds.{dayCount, microOfDay, firstMonth, lastMonth, endMonth, firstDay, lastDay}
+use Rattle.labels.specs.Lengths.{daySeconds, dayMicros}
 use Rattle.labels.specs.Promise.{hasLabel, realDate}
-use Rattle.labels.proofs.Admitted.{Admitted, admitted-to, admitted-from}
+use Rattle.labels.proofs.Admitted.{Admitted, admitted-to, admitted-from, admitted-again}
 use Rattle.labels.proofs.Years.{days-end}
-use Rattle.labels.proofs.Promise.{own-length}
+use Rattle.labels.proofs.Promise.{month-of, is-real, own-length}
 
 module _ (o : Offsets) (most : ℕ) (few : most ≤ 60) (r : Reading) (a : Admitted o most r) where
   abbrev l : Label
@@ -27,9 +26,7 @@ module _ (o : Offsets) (most : ℕ) (few : most ≤ 60) (r : Reading) (a : Admit
   -- its whole second is a label of the scale
   has : hasLabel o l ≡ true
   has =
-      let k = a .on-clock in
-      admitted-from o 60 (whole l)
-      (record { since-1972 = a .since-1972; until-9999 = a .until-9999; exists = a .exists; on-clock = record { hour-high = k .hour-high; minute-high = k .minute-high; second-most = omega (arith, k .second-most); micro-high = omega arith } })
+      admitted-from o 60 (whole l) (admitted-again o most r a 60 0 (omega (arith, a .on-clock .second-most)) (omega arith))
 
   real : realDate l ≡ true
   real =
@@ -39,10 +36,10 @@ module _ (o : Offsets) (most : ℕ) (few : most ≤ 60) (r : Reading) (a : Admit
       let d : realDay l ≡ true = search (and-l, and-r) in
       join y (join m d)
 
-  pub micro-less : microOfDay r < 1000000 * daySeconds o (dayCount (r .label))
+  pub micro-less : microOfDay r < dayMicros o (dayCount (r .label))
   micro-less = omega (arith, own-length o l real .none-past l refl has, a .on-clock .micro-high)
 
-  pub day-between : (720258 ≤ dayCount (r .label)) × (dayCount (r .label) ≤ 3652424)
+  pub day-between : (firstDay ≤ dayCount (r .label)) × (dayCount (r .label) ≤ lastDay)
   day-between =
       let m = monthOf l in
       let e = a .exists in
@@ -50,7 +47,7 @@ module _ (o : Offsets) (most : ℕ) (few : most ≤ 60) (r : Reading) (a : Admit
 
 -- ---- a microsecond of a day from 1972 to 9999
 
-module _ (o : Offsets) (d u : ℕ) (low : 720258 ≤ d) (high : d ≤ 3652424) (h : u < 1000000 * daySeconds o d) where
+module _ (o : Offsets) (d u : ℕ) (low : firstDay ≤ d) (high : d ≤ lastDay) (h : u < dayMicros o d) where
   abbrev m : ℕ
   m = monthOfDay d
 
@@ -58,13 +55,9 @@ module _ (o : Offsets) (d u : ℕ) (low : 720258 ≤ d) (high : d ≤ 3652424) (
   begin : Label
   begin = label (m / 12) (m % 12 + 1) (d - daysBefore m + 1) 0 0 0
 
-  begin-month : monthOf begin ≡ m
-  unfolding begin
-  begin-month = omega arith
-
   begin-day : dayCount begin ≡ d
   unfolding begin
-  begin-day = omega (arith, in-month d, ap daysBefore begin-month)
+  begin-day = omega (arith, in-month d, ap daysBefore (month-of m (d - daysBefore m + 1) 0 0 0))
 
   month-range : (firstMonth ≤ m) × (m ≤ lastMonth)
   month-range = (
@@ -73,11 +66,8 @@ module _ (o : Offsets) (d u : ℕ) (low : 720258 ≤ d) (high : d ≤ 3652424) (
   )
 
   begin-real : realDate begin ≡ true
-  unfolding begin realYear realMonth realDay
-  begin-real =
-      join (join (le-leb 1972 (m / 12) (omega (arith, month-range))) (le-leb (m / 12) 9999 (omega (arith, month-range))))
-      (join (join (le-leb 1 (m % 12 + 1) (omega arith)) (le-leb (m % 12 + 1) 12 (omega arith)))
-      (join (le-leb 1 (d - daysBefore m + 1) (omega arith)) (le-leb (d - daysBefore m + 1) (monthLength (monthOf begin)) (omega (arith, in-month d, days-next m, ap monthLength begin-month)))))
+  unfolding begin
+  begin-real = is-real m (d - daysBefore m + 1) 0 0 0 (month-range .0) (month-range .1) (omega arith) (omega (arith, in-month d, days-next m))
 
   -- has a reading
   pub reading-on : (r : Reading) × Admitted o 60 r × (dayCount (r .label) ≡ d) × (microOfDay r ≡ u)
@@ -85,10 +75,9 @@ module _ (o : Offsets) (d u : ℕ) (low : 720258 ≤ d) (high : d ≤ 3652424) (
       let q = own-length o begin begin-real .every-one (u / 1000000) (omega (arith, h, ap (daySeconds o) begin-day)) in
       let l = q .0 in
       let a = admitted-to o 60 (whole l) (q .1 .1 .0) in
-      let k = a .on-clock in
       let same : dayCount l ≡ d = ap (λ x. daysBefore (12 * x .0 + (x .1 .0 - 1)) + (x .1 .1 - 1)) (q .1 .0) ∙ begin-day in (
         record { label = l; micro = u % 1000000 },
-        record { since-1972 = a .since-1972; until-9999 = a .until-9999; exists = a .exists; on-clock = record { hour-high = k .hour-high; minute-high = k .minute-high; second-most = k .second-most; micro-high = omega arith } },
+        admitted-again o 60 (whole l) a 60 (u % 1000000) (a .on-clock .second-most) (omega arith),
         same,
         omega (arith, q .1 .1 .1),
       )

@@ -1,7 +1,7 @@
 -- How many seconds a day has: `its-own-length` of Promise says that so many labels are its own.
 -- Assumes nothing.
 use mathlib.Core.Bool.{Bool, cond}
-use Prim.Native.Nat.{ℕ, _+_}
+use Prim.Native.Nat.{ℕ, _+_, _*_}
 use lib.Dec.{eqb}
 use lib.IntN.{ℤ}
 use Rattle.months.specs.Months.{daysBefore}
@@ -15,3 +15,7 @@ secondsIn last here next = cond last (86340 + lastMinute here next) 86400
 -- of day d, counted from 1 January of year 0
 abbrev pub daySeconds : Offsets → ℕ → ℕ
 daySeconds o d = secondsIn (eqb (d + 1) (daysBefore (monthOfDay d + 1))) (o (monthOfDay d)) (o (monthOfDay d + 1))
+
+-- and its microseconds
+abbrev pub dayMicros : Offsets → ℕ → ℕ
+dayMicros o d = 1000000 * daySeconds o d

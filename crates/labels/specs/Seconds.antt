@@ -49,6 +49,13 @@ lastMonth = 119999
 abbrev pub endMonth : ℕ
 endMonth = 120000
 
+-- 1 January 1972 and 31 December 9999, counted from 1 January of year 0
+abbrev pub firstDay : ℕ
+firstDay = 720258
+
+abbrev pub lastDay : ℕ
+lastDay = 3652424
+
 abbrev pub firstReading : Reading
 firstReading = at 1972 1 1 0 0 0 0
 

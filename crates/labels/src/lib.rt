@@ -1,10 +1,10 @@
-// Labels and readings: which exist, how long a label's minute is, and the label of a second of a month.
+// Labels and readings: which exist, how long a label's minute and a day are, and the label of a second of a month.
 // No table and no scale is known here: what they say of a month and of the next comes in as two offsets.
 ghost use mathlib.Core.Path.{_≡_};
-ghost use Prim.Native.Nat.{_-_, _/_, _≤_, min};
+ghost use Prim.Native.Nat.{_≤_};
 ghost use Rattle.labels.specs.Labels.{monthOf, realYear, realMonth, dayIn, realClock, judged, lastMinute, inLastMinute, minuteIn};
 ghost use Rattle.labels.specs.Lengths.{secondsIn};
-ghost use Rattle.labels.specs.Back.{minuteOf, inDay, labelOf};
+ghost use Rattle.labels.specs.Back.{minuteOf, dayOf, inDay, labelOf};
 use answer::Refusal;
 
 // A calendar label of whole seconds.
@@ -197,7 +197,7 @@ fn in_day(m: u32, d: u32, rest: u32) -> Label
 
 // The day that a second of a month of so many days is in, counted from 0; the last takes what is left.
 pub fn day_of(days: u32, rest: u32) -> u32
-    ensures { λ r. ⌜ r ≡ min (rest / 86400) (days - 1) ⌝ }
+    ensures { λ r. ⌜ r ≡ dayOf days rest ⌝ }
 {
     if days < 1 {
         return 0;

@@ -1,4 +1,4 @@
--- The record of two days that the code makes, and the instants of a day.
+-- The instants of a day: of a reading by its day, after a midnight, and at the next one.
 -- Assumes nothing.
 use mathlib.Core.Path.{_≡_, sym, ap, ap₂, _∙_}
 use mathlib.Core.Bool.{true}
@@ -6,20 +6,21 @@ use mathlib.Core.List.{[], _∷_}
 use Prim.Native.Nat.{ℕ, _+_, _*_, _≤_}
 use native.Mathlib.Omega.{arith}
 use lib.IntN.{ℤ, pos, _+ℤ_}
-use borrow.Author.Tests.{le-leb}
-use lib.Dec.{leb}
+use borrow.Author.Tests.{eqb-true, eqb-false, le-leb}
+use lib.Dec.{eqb, leb}
+use Rattle.laws.proofs.Cases.{by-test}
 use Rattle.laws.proofs.Difference.{up, down, sum-is, eq-from}
 use Rattle.answer.specs.declared.Refusal.the-variants.{Range as RANGE}
 use Rattle.answer.specs.Refusals.{refusing}
-use Rattle.months.specs.Months.{monthLength}
+use Rattle.months.specs.Months.{daysBefore, monthLength}
 use Rattle.months.proofs.Laws.{days-next, length-least}
 use Rattle.calendar.specs.Days.{monthOfDay}
-use Rattle.calendar.proofs.Days.{month-is}
+use Rattle.calendar.proofs.Days.{month-is, month-turns, month-stays}
 use Rattle.leap.specs.declared.Table.{Table}
 use Rattle.leap.proofs.Facts.{Accepted}
 use Rattle.labels.specs.declared.Reading.{Reading}
 use Rattle.labels.specs.Labels.{Offsets, monthOf}
-use Rattle.labels.specs.Seconds.{dayCount, secondOf, microOfDay, microOf, axisAt, lastMonth, endMonth}
+use Rattle.labels.specs.Seconds.{dayCount, secondOf, microOfDay, microOf, axisAt, lastMonth, endMonth, firstDay, lastDay}
 use Rattle.labels.specs.Lengths.{daySeconds}
 use Rattle.labels.proofs.Lengths.{label-falls, next-midnight}
 use Rattle.labels.proofs.Years.{days-end, years-to}
@@ -28,11 +29,18 @@ use Rattle.stamp.specs.declared.DayStart.{DayStart}
 use Rattle.stamp.specs.declared.InstantAnswer.the-variants.{At, Refused}
 use Rattle.stamp.specs.Scales.{offsetsOf, toInstant, toAxis, instantFor}
 use Rattle.stamp.specs.Back.{inRange}
-use Rattle.stamp.specs.Days.{dayStart, dayOn, firstDay, lastDay, instantAfter, instantOn}
+use Rattle.stamp.specs.Days.{dayStart, longest, instantAfter, instantOn}
+use Rattle.stamp.specs.Parts.{dayAfter}
 use Rattle.stamp.proofs.Scales.{steps, to-axis-is, instant-is}
 
-pub spanned : (o : Offsets) (d m n z : ℕ) (x y : ℤ) → m ≡ monthOfDay d → n ≡ monthOfDay (d + 1) → x ≡ o (monthOfDay d) → y ≡ o (monthOfDay (d + 1)) → z ≡ daySeconds o d → record { this = record { number = d; month = m; offset = x }; next = record { number = d + 1; month = n; offset = y }; seconds = z } ≡ dayOn o d
-spanned o d m n z x y a b e f g = cc
+-- the day behind one
+pub day-behind : (o : Offsets) (d : ℕ) → dayAfter (dayStart o d) (eqb (d + 1) (daysBefore (monthOfDay d + 1))) (o (monthOfDay d + 1)) ≡ dayStart o (d + 1)
+day-behind o d =
+    let m = monthOfDay d in
+    let end = eqb (d + 1) (daysBefore (m + 1)) in
+    by-test end
+    (λ e. let q = month-turns d (eqb-true (d + 1) (daysBefore (m + 1)) e) in rw e (ap (λ (n : ℕ). record { number = d + 1; month = n; offset = o n }) q))
+    (λ e. let q = month-stays d (eqb-false (d + 1) (daysBefore (m + 1)) e) in rw e (ap (λ (n : ℕ). record { number = d + 1; month = n; offset = o n }) q))
 
 -- the instant of a reading is that of its microsecond of its day
 pub instant-by-day : (t : Table) (s : Scale) (r : Reading) → 1 ≤ r .label .day → r .label .day ≤ monthLength (monthOf (r .label)) → instantFor t s r ≡ instantAfter s (dayStart (offsetsOf t s) (dayCount (r .label))) (microOfDay r)
@@ -42,9 +50,9 @@ instant-by-day t s r low high =
     ap₂ (λ (n m : ℕ). toInstant s (axisAt n (offsetsOf t s m))) u (label-falls (r .label) low high)
 
 -- from 1972 on, and with no more than a day's microseconds, only the last day is asked
-pub on-day : (s : Scale) (b : DayStart) (u : ℕ) → firstDay ≤ b .number → u ≤ 86401000000 → instantOn s b u ≡ refusing Refused ((leb (b .number) lastDay, RANGE) ∷ []) (At (instantAfter s b u))
+pub on-day : (s : Scale) (b : DayStart) (u : ℕ) → firstDay ≤ b .number → u ≤ longest → instantOn s b u ≡ refusing Refused ((leb (b .number) lastDay, RANGE) ∷ []) (At (instantAfter s b u))
 unfolding instantOn
-on-day s b u l h = rw (le-leb firstDay (b .number) l, le-leb u 86401000000 h)
+on-day s b u l h = rw (le-leb firstDay (b .number) l, le-leb u longest h)
 
 -- ---- so many microseconds after a day's midnight
 

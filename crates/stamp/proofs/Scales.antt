@@ -4,6 +4,9 @@ use mathlib.Core.Path.{_≡_, refl, sym}
 use Prim.Native.Nat.{ℕ, _+_, _*_, _≤_}
 use native.Mathlib.Omega.{arith}
 use lib.IntN.{ℤ, pos, _+ℤ_, _-ℤ_}
+use borrow.Author.Tests.{eqb-true}
+use lib.Dec.{eqb}
+use Rattle.laws.proofs.Cases.{pick}
 use Rattle.laws.proofs.Difference.{up, down, sum-is, diff-is, eq-from}
 use Rattle.laws.proofs.Machine.{Within}
 use Rattle.laws.proofs.Offsets.{Steps, uniform-steps}
@@ -11,12 +14,13 @@ use Rattle.leap.specs.declared.Table.{Table}
 use Rattle.leap.proofs.Facts.{Accepted}
 use Rattle.leap.proofs.Moves.{at-first, steps-by-months}
 use Rattle.labels.specs.declared.Label.{Label}
+use Rattle.labels.specs.Labels.{uniform}
 use Rattle.labels.specs.Seconds.{axisAt, firstMonth}
 use Rattle.labels.proofs.Years.{axis-is}
 use Rattle.labels.proofs.Exists.{Exists, second-few, second-uniform}
 use Rattle.stamp.specs.declared.Scale.{Scale}
 use Rattle.stamp.specs.declared.Scale.the-variants.{Utc, Tai, Tdt, Gps}
-use Rattle.stamp.specs.Scales.{fixed, offsetsOf, mostSecond, toInstant, toAxis}
+use Rattle.stamp.specs.Scales.{scaleOf, fixed, offsetsOf, mostSecond, toInstant, toAxis}
 use Rattle.stamp.specs.Parts.{firstOffset}
 
 -- ---- the calendar rule
@@ -32,6 +36,13 @@ first-offset t acc Utc = sym (at-first t acc)
 first-offset t acc Tai = refl
 first-offset t acc Tdt = refl
 first-offset t acc Gps = refl
+
+-- the scales 1 to 3 have no offsets
+pub offsets-uniform : (t : Table) (k : ℕ) → 1 ≤ k → offsetsOf t (scaleOf k) ≡ uniform
+offsets-uniform t k h =
+    pick (λ (s : Scale). offsetsOf t s ≡ uniform) (eqb k 0) (λ e. absurd (omega (arith, eqb-true k 0 e)))
+    (λ e. pick (λ (s : Scale). offsetsOf t s ≡ uniform) (eqb k 1) (λ e. refl)
+    (λ e. pick (λ (s : Scale). offsetsOf t s ≡ uniform) (eqb k 2) (λ e. refl) (λ e. refl)))
 
 pub most-sixty : (s : Scale) → (59 ≤ mostSecond s) × (mostSecond s ≤ 60)
 most-sixty Utc = omega arith

@@ -13,7 +13,7 @@ use Rattle.calendar.specs.Days.{monthOfDay}
 use Rattle.leap.specs.declared.Table.{Table}
 use Rattle.labels.specs.declared.Reading.{Reading}
 use Rattle.labels.specs.Labels.{Offsets}
-use Rattle.labels.specs.Seconds.{dayCount, microOfDay, axisAt}
+use Rattle.labels.specs.Seconds.{dayCount, microOfDay, axisAt, firstDay, lastDay}
 use Rattle.labels.specs.Lengths.{daySeconds}
 use Rattle.stamp.specs.declared.Scale.{Scale}
 use Rattle.stamp.specs.declared.DayTime.{DayTime}
@@ -44,16 +44,13 @@ dayStart o d = record { number = d; month = monthOfDay d; offset = o (monthOfDay
 abbrev pub dayOn : Offsets → ℕ → DaySpan
 dayOn o d = record { this = dayStart o d; next = dayStart o (d + 1); seconds = daySeconds o d }
 
--- 1 January 1972 and 31 December 9999
-abbrev pub firstDay : ℕ
-firstDay = 720258
+-- the microseconds of a day with an added second
+abbrev pub longest : ℕ
+longest = 86401000000
 
-abbrev pub lastDay : ℕ
-lastDay = 3652424
-
--- a day of these years, and no more microseconds than the longest has
+-- a day from 1972 to 9999, and no more microseconds than a day can have
 abbrev pub dayTests : DayStart → ℕ → List (Bool × Refusal)
-dayTests b u = (leb firstDay (b .number) && leb (b .number) lastDay, RANGE) ∷ (leb u 86401000000, RANGE) ∷ []
+dayTests b u = (leb firstDay (b .number) && leb (b .number) lastDay, RANGE) ∷ (leb u longest, RANGE) ∷ []
 
 abbrev pub instantAfter : Scale → DayStart → ℕ → ℤ
 instantAfter s b u = toInstant s (axisAt (86400000000 * b .number + u) (b .offset))

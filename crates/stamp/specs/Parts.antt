@@ -1,7 +1,8 @@
 -- What the contracts of private functions cite. A reader may skip this file.
 -- Assumes nothing.
+use mathlib.Core.Bool.{Bool, cond}
 use mathlib.Core.List.{[], _∷_}
-use Prim.Native.Nat.{ℕ, _/_, _%_}
+use Prim.Native.Nat.{ℕ, _+_, _/_, _%_}
 use lib.IntN.{ℤ, pos}
 use Rattle.answer.specs.declared.Refusal.the-variants.{Range as RANGE}
 use Rattle.answer.specs.Refusals.{refusing}
@@ -12,6 +13,7 @@ use Rattle.labels.specs.Lengths.{daySeconds}
 use Rattle.labels.specs.Back.{placeAt, labelAt}
 use Rattle.stamp.specs.declared.Scale.{Scale}
 use Rattle.stamp.specs.declared.Scale.the-variants.{Utc, Tai, Tdt, Gps}
+use Rattle.stamp.specs.declared.DayStart.{DayStart}
 use Rattle.stamp.specs.declared.Spot.{Spot}
 use Rattle.stamp.specs.declared.Moment.{Moment}
 use Rattle.stamp.specs.declared.MomentAnswer.{MomentAnswer}
@@ -29,6 +31,10 @@ firstOffset Gps = pos 0
 -- a second of the axis: its month, and the seconds of its day
 abbrev pub spotAt : Offsets → ℕ → Spot
 spotAt o s = record { place = placeAt o s; seconds = daySeconds o (dayCount (labelAt o s)) }
+
+-- `day_after`
+abbrev pub dayAfter : DayStart → Bool → ℤ → DayStart
+dayAfter b last offset = record { number = b .number + 1; month = cond last (b .month + 1) (b .month); offset = cond last offset (b .offset) }
 
 -- where an instant falls: a second, and the microsecond of that
 abbrev pub momentAt : Table → Scale → ℤ → Moment

@@ -1,4 +1,4 @@
-// Scales and stamps: the instant of a stamp, and the stamp of an instant.
+// Scales and stamps: the instant of a stamp, and the stamp of an instant; the day that a scale shows, and the instant of a microsecond of a day.
 // An instant is a count of TAI microseconds from 2000-01-01 12:00:00 TAI; a scale's own axis counts microseconds from year 0.
 ghost use mathlib.Core.Path.{_≡_};
 ghost use mathlib.Core.Bool.{true, false};
@@ -15,7 +15,7 @@ ghost use Rattle.labels.specs.Labels.{monthOf, judged, hasSecond};
 ghost use Rattle.labels.specs.Seconds.{microOf, axisAt, inYears, lastMonth};
 ghost use Rattle.labels.specs.Back.{dayBegins};
 ghost use Rattle.stamp.specs.Scales.{scaleOf, scaleNumber, asked, fixed, offsetsOf, mostSecond, toInstant, instantFor};
-ghost use Rattle.stamp.specs.Parts.{firstOffset, spotAt, momentIn, momentOf};
+ghost use Rattle.stamp.specs.Parts.{firstOffset, spotAt, momentIn, momentOf, dayAfter};
 ghost use Rattle.stamp.specs.Back.{inRange, axisCount};
 ghost use Rattle.stamp.specs.Days.{dayOn};
 ghost use Rattle.stamp.specs.Stamps.{instantIn};
@@ -147,7 +147,9 @@ impl Scale {
 
     const LAST_DAY: u64 = 3652424;
 
-    // The microseconds of a day with an added second.
+    // The microseconds of a day, and of one with an added second.
+    const DAY: u64 = 86400000000;
+
     const LONGEST: u64 = 86401000000;
 
     // December 9999.
@@ -432,13 +434,13 @@ fn spot_at<'a>(
     }
     let rest = elapsed(span.start, near.here, second) as u32;
     let last = 86400 * (span.length - 1) <= rest;
-    let seconds = labels::day_seconds(last, near.here, near.next);
     let place = Place {
         month: m,
         start: span.start,
         days: span.length,
         second: rest,
     };
+    let seconds = labels::day_seconds(last, near.here, near.next);
     Spot { place, seconds }
 }
 
@@ -589,6 +591,26 @@ pub fn shown_of<'a>(
     }
 }
 
+// The day behind one, in the next month where that is the last of its own.
+fn day_after(this: DayStart, last: bool, offset: i32) -> DayStart
+    requires { ⌜ (this .number ≤ 4294967295) × (this .month ≤ 4294967295) ⌝ }
+    ensures { λ r. ⌜ r ≡ dayAfter this last offset ⌝ }
+{
+    let number = this.number + 1;
+    if last {
+        return DayStart {
+            number,
+            month: this.month + 1,
+            offset,
+        };
+    }
+    DayStart {
+        number,
+        month: this.month,
+        offset: this.offset,
+    }
+}
+
 // A day of a scale, and the next one.
 pub fn day_on<'a>(
     scale: Scale,
@@ -602,33 +624,15 @@ pub fn day_on<'a>(
     let span = calendar::month_of_day(day);
     let m = span.number;
     let near = scale.near(count, months, offsets, m);
-    let here = near.here;
     let number = day as u64;
-    let month = m as u64;
     let last = number + 1 == span.start + span.length as u64;
-    let seconds = labels::day_seconds(last, here, near.next);
+    let seconds = labels::day_seconds(last, near.here, near.next);
     let this = DayStart {
         number,
-        month,
-        offset: here,
+        month: m as u64,
+        offset: near.here,
     };
-    if last {
-        let next = DayStart {
-            number: number + 1,
-            month: month + 1,
-            offset: near.next,
-        };
-        return DaySpan {
-            this,
-            next,
-            seconds,
-        };
-    }
-    let next = DayStart {
-        number: number + 1,
-        month,
-        offset: here,
-    };
+    let next = day_after(this, last, near.next);
     DaySpan {
         this,
         next,
@@ -651,7 +655,7 @@ pub fn instant_on(scale: Scale, vouched: u32, day: DayStart, micro: u64) -> Mark
         return refused_instant(Refusal::Range);
     }
     MarkedInstant {
-        answer: InstantAnswer::At(scale.instant(86400000000 * number + micro, day.offset)),
+        answer: InstantAnswer::At(scale.instant(Scale::DAY * number + micro, day.offset)),
         beyond: beyond_on(scale, vouched, day.month),
     }
 }

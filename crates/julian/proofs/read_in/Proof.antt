@@ -9,10 +9,10 @@ use borrow.Author.Tests.{lt-ltb, le-ltb}
 use lib.Dec.{T}
 use Rattle.laws.proofs.Branches.{fails, holds}
 use Rattle.answer.proofs.Orders.{refused, passed}
-use Rattle.calendar.specs.Days.{monthOfDay}
 use Rattle.leap.specs.declared.Table.{Table}
 use Rattle.leap.specs.Leap.{tabled, vouchedTo}
 use Rattle.labels.specs.Labels.{Offsets}
+use Rattle.labels.specs.Lengths.{dayMicros}
 use Rattle.labels.proofs.Lengths.{day-range}
 use Rattle.stamp.specs.declared.DayStart.{DayStart}
 use Rattle.stamp.specs.declared.DaySpan.{DaySpan}
@@ -20,14 +20,14 @@ use Rattle.stamp.specs.declared.InstantAnswer.{InstantAnswer}
 use Rattle.stamp.specs.declared.MarkedInstant.{MarkedInstant}
 use Rattle.stamp.specs.Scales.{offsetsOf}
 use Rattle.stamp.specs.Days.{dayStart, dayOn}
-use Rattle.stamp.specs.Marks.{beyondOn, markedInstant, instantOnMarked}
+use Rattle.stamp.specs.Marks.{markedInstant, instantOnMarked}
 use Rattle.stamp.proofs.Days.{on-day}
 use Rattle.fraction.specs.Fraction.{isFraction, isHalf, nearestOf}
 use Rattle.fraction.proofs.Fraction.{below-one, nearest-at}
 use Rattle.julian.specs.declared.JulianDate.{JulianDate}
 use Rattle.julian.specs.Midnight.{midnightInYears, dayNumber}
-use Rattle.julian.specs.Dates.{dayMicros, nearestIn, sameDay, dayRead, microRead}
-use Rattle.julian.specs.Parts.{readIn, readInMarked}
+use Rattle.julian.specs.Dates.{nearestIn, sameDay, dayRead, microRead, readIn}
+use Rattle.julian.specs.Marks.{beyondRead, readInMarked}
 use Rattle.julian.proofs.Dates.{read-same, read-next, read-less, read-since}
 use Rattle.julian.proofs.read_in.Statement.{statement}
 use Rattle.julian.proofs.read_in.Tie as tie
@@ -65,7 +65,7 @@ module _ (c : tie.Start) where
   p = c .args .date
 
   abbrev mark : Bool
-  mark = beyondOn (c .args .vouched) (c .args .scale) (monthOfDay (dayRead o p))
+  mark = beyondRead table (c .args .scale) p
 
   marked : {a : InstantAnswer} {m : MarkedInstant} → m ≡ markedInstant a mark → a ≡ readIn table (c .args .scale) p → m ≡ readInMarked table (c .args .scale) p
   marked e f = e ∙ ap (λ a. markedInstant a mark) f

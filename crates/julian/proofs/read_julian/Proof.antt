@@ -3,17 +3,15 @@ use mathlib.Core.Bool.{Bool, false}
 use borrow.Author.Needs.{needs}
 use Rattle.answer.specs.declared.Refusal.{Refusal}
 use Rattle.answer.proofs.Orders.{refusing-map}
-use Rattle.calendar.specs.Days.{monthOfDay}
 use Rattle.stamp.specs.declared.Scale.{Scale}
 use Rattle.stamp.specs.declared.InstantAnswer.the-variants.{Refused}
 use Rattle.stamp.specs.declared.MarkedInstant.{MarkedInstant}
 use Rattle.stamp.specs.declared.ScaleAnswer.{ScaleAnswer}
-use Rattle.stamp.specs.Scales.{scaleOf, scaleTests, offsetsOf}
-use Rattle.stamp.specs.Marks.{beyondOn, markedInstant}
+use Rattle.stamp.specs.Scales.{scaleOf, scaleTests}
+use Rattle.stamp.specs.Marks.{markedInstant}
 use Rattle.stamp.proofs.First.{onScale, then-asked}
-use Rattle.julian.specs.Dates.{dayRead, readJulian}
-use Rattle.julian.specs.Marks.{readJulianMarked}
-use Rattle.julian.specs.Parts.{readIn, readInMarked}
+use Rattle.julian.specs.Dates.{readIn, readJulian}
+use Rattle.julian.specs.Marks.{beyondRead, readInMarked, readJulianMarked}
 use Rattle.julian.proofs.read_julian.Statement.{statement}
 use Rattle.julian.proofs.read_julian.Tie as tie
 
@@ -26,7 +24,7 @@ module _ (c : tie.After-asked) where
 
   -- the mark where the scale is k
   abbrev mark : Scale → Bool
-  mark k = beyondOn (s .args .t1 .vouched) k (monthOfDay (dayRead (offsetsOf (s .args .t1) k) (s .args .date)))
+  mark k = beyondRead (s .args .t1) k (s .args .date)
 
   answered : {v : ScaleAnswer} → c .asked .result ≡ v → onScale refused (λ k. readInMarked (s .args .t1) k (s .args .date)) v ≡ readJulianMarked (s .args .t1) (s .args .scale) (s .args .date)
   unfolding readJulian

@@ -6,7 +6,7 @@ use Rattle.laws.proofs.Branches.{cond-yes, cond-rest}
 use Rattle.laws.proofs.Machine.{read2}
 use Rattle.labels.specs.Labels.{lastMinute}
 use Rattle.labels.specs.Lengths.{secondsIn}
-use Rattle.labels.proofs.Lengths.{last-range}
+use Rattle.labels.proofs.Turn.{last-range}
 use Rattle.labels.proofs.day_seconds.Statement.{statement}
 use Rattle.labels.proofs.day_seconds.Tie as tie
 

@@ -1,10 +1,10 @@
 -- `stamp::day_on` meets its contract: the calendar read once, and the table walked once.
 -- Assumes nothing.
-use mathlib.Core.Path.{_≡_, sym, ap, _∙_}
+use mathlib.Core.Path.{_≡_, ap, _∙_}
 use Prim.Native.Nat.{ℕ, _+_}
 use native.Mathlib.Omega.{arith}
 use borrow.Author.Needs.{needs}
-use borrow.Author.Tests.{eqb-true, eqb-false}
+use lib.Dec.{eqb}
 use mir.Syntax.{w32}
 use mir.Val.{SFits, toZ, ofZ}
 use mir.Facts.{toZ-ofZ}
@@ -16,9 +16,10 @@ use Rattle.calendar.proofs.Days.{in-month}
 use Rattle.leap.specs.Leap.{tabled}
 use Rattle.labels.specs.Labels.{Offsets}
 use Rattle.labels.specs.Lengths.{daySeconds}
-use Rattle.labels.proofs.Lengths.{next-month, same-month}
+use Rattle.stamp.specs.Days.{dayStart}
+use Rattle.stamp.specs.Parts.{dayAfter}
 use Rattle.stamp.specs.Scales.{offsetsOf}
-use Rattle.stamp.proofs.Days.{spanned}
+use Rattle.stamp.proofs.Days.{day-behind}
 use Rattle.stamp.proofs.day_on.Statement.{statement}
 use Rattle.stamp.proofs.day_on.Tie as tie
 
@@ -51,7 +52,7 @@ module _ (c : tie.After-day-seconds) where
   a = month .before
 
   here-fits : SFits w32 (near .near .result .here)
-  here-fits = record { sfits = c .before .before .before .before .struct-told .given .0 .1 }
+  here-fits = record { sfits = c .before .before .struct-told .given .0 .1 }
 
   next-fits : SFits w32 (near .near .result .next)
   next-fits = record { sfits = c .before .struct-told2 .given .1 .0 .1 }
@@ -65,6 +66,16 @@ module _ (c : tie.After-day-seconds) where
   seconds-are : c .day-seconds .result ≡ daySeconds (o a) (d a)
   seconds-are = c .day-seconds .ensures ∙ cc (here-is, next-is, end-is month)
 
+next-told : (c : tie.After-day-after) → let s = a (c .before .before .before) in c .day-after .result ≡ dayStart (o s) (d s + 1)
+next-told c =
+    let e = c .before .before .before in
+    let s = a e in
+    let told : c .day-after .result ≡ dayAfter (dayStart (o s) (d s)) (eqb (d s + 1) (daysBefore (m s + 1))) (o s (m s + 1)) = c .day-after .ensures ∙ cc (here-is e, next-is e, end-is (month e), number-is (month e)) in
+    told ∙ day-behind (o s) (d s)
+
+returns : tie.Need-returns
+returns c = let e = c .before .before .before in cc (here-is e, number-is (month e), seconds-are e, next-told c)
+
 pub day-on-spec : {M : Type 1} → statement M
 day-on-spec =
     tie.close
@@ -73,17 +84,8 @@ day-on-spec =
     (λ c κs. search needs)
     (λ c. search needs)
     (λ c. search needs)
-    (λ c. search needs)
-    (λ c. let k = c .before .before .before .before in record { fits = omega (arith, end-is k, days-next (m (k .before)), length-most (m (k .before)), in-month (d (k .before))) })
+    (λ c. let k = c .before .before .before in record { fits = omega (arith, end-is k, days-next (m (k .before)), length-most (m (k .before)), in-month (d (k .before))) })
     (λ c κs. search needs)
     (λ c. search needs)
-    (λ c. search needs)
-    (λ c.
-    let e = c .before .before in
-    let q = next-month (d (a e)) (eqb-true _ _ (c .before .if1 .taken) ∙ end-is (month e)) in
-    spanned (o (a e)) (d (a e)) _ _ _ _ _ (number-is (month e)) (ap (λ (k : ℕ). k + 1) (number-is (month e)) ∙ q) (here-is e) (next-is e ∙ ap (o (a e)) q) (seconds-are e))
-    (λ c. search needs)
-    (λ c.
-    let e = c .before in
-    let q = same-month (d (a e)) (λ h. eqb-false _ _ (c .if1 .left) (h ∙ sym (end-is (month e)))) in
-    spanned (o (a e)) (d (a e)) _ _ _ _ _ (number-is (month e)) (number-is (month e) ∙ q) (here-is e) (here-is e ∙ ap (o (a e)) q) (seconds-are e)))
+    (λ c κs. search needs)
+    returns)

@@ -13,12 +13,12 @@ use Rattle.laws.proofs.Cases.{join}
 use Rattle.laws.proofs.Machine.{read1}
 use Rattle.answer.specs.declared.Refusal.the-variants.{Range as RANGE}
 use Rattle.answer.proofs.Orders.{refused, passed}
-use Rattle.labels.specs.Seconds.{axisAt}
+use Rattle.labels.specs.Seconds.{axisAt, firstDay, lastDay}
 use Rattle.stamp.specs.declared.InstantAnswer.{InstantAnswer}
 use Rattle.stamp.specs.declared.InstantAnswer.the-variants.{At, Refused}
 use Rattle.stamp.specs.declared.MarkedInstant.{MarkedInstant}
 use Rattle.stamp.specs.Scales.{toInstant}
-use Rattle.stamp.specs.Days.{firstDay, lastDay, instantAfter, instantOn}
+use Rattle.stamp.specs.Days.{longest, instantAfter, instantOn}
 use Rattle.stamp.specs.Marks.{beyondOn, markedInstant}
 use Rattle.stamp.proofs.instant_on.Statement.{statement}
 use Rattle.stamp.proofs.instant_on.Tie as tie
@@ -46,11 +46,11 @@ module _ (c : tie.Start) where
     years : (leb firstDay number && leb number lastDay) ≡ true
     years = join (le-leb _ _ l) (le-leb _ _ h)
 
-    long : 86401000000 < c .args .micro → Refused RANGE ≡ answer
+    long : longest < c .args .micro → Refused RANGE ≡ answer
     unfolding answer instantOn
     long q = passed _ years (refused _ _ (lt-leb _ _ q))
 
-    fine : c .args .micro ≤ 86401000000 → At (instantAfter (c .args .scale) (c .args .day) (c .args .micro)) ≡ answer
+    fine : c .args .micro ≤ longest → At (instantAfter (c .args .scale) (c .args .day) (c .args .micro)) ≡ answer
     unfolding answer instantOn
     fine q = passed _ years (passed _ (le-leb _ _ q) refl)
 
