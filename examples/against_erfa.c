@@ -36,13 +36,15 @@ static int64_t units_apart(double a, double b)
     return of_a < of_b ? of_b - of_a : of_a - of_b;
 }
 
-static void expect(const char *what, const mundreff_stamp *at, int holds)
+/* it gives back whether it holds */
+static int expect(const char *what, const mundreff_stamp *at, double seconds, int holds)
 {
     if (!holds) {
         if (wrong < 20)
-            printf("not as ERFA has it: %s of %04" PRIu32 "-%02" PRIu32 "-%02" PRIu32 "T%02" PRIu32 ":%02" PRIu32 ":%02" PRIu32 ".%06" PRIu32 "\n", what, at->year, at->month, at->day, at->hour, at->minute, at->second, at->microsecond);
+            printf("not as ERFA has it: %s of %04" PRIu32 "-%02" PRIu32 "-%02" PRIu32 "T%02" PRIu32 ":%02" PRIu32 ":%02" PRIu32 ".%06" PRIu32 ", seconds %.17g\n", what, at->year, at->month, at->day, at->hour, at->minute, at->second, at->microsecond, seconds);
         wrong++;
     }
+    return holds;
 }
 
 /* the TAI instant of ERFA's two parts: the first is a whole number and a half, and the microseconds of the second are rounded alone */
@@ -51,37 +53,45 @@ static int64_t joined(double tai1, double tai2)
     return ((int64_t)(tai1 - 2451544.5)) * day - day / 2 + (int64_t)llround(tai2 * 86400e6);
 }
 
-/* ERFA's pair of a stamp whose seconds are this double. It calls a year that it has no announcement for dubious, with 1, and answers. */
-static int erfa_pair(const mundreff_stamp *at, double seconds, double *midnight, double *fraction)
+/* ERFA calls a year that it has no announcement for dubious, with 1, and answers. */
+static int answered(int status)
 {
-    int status = eraDtf2d("UTC", (int)at->year, (int)at->month, (int)at->day, (int)at->hour, (int)at->minute, seconds, midnight, fraction);
     return status == 0 || status == 1;
+}
+
+/* an instant and its pair by us */
+typedef struct {
+    int64_t instant;
+    double midnight, fraction;
+} moment;
+
+/* ERFA's pair of the stamp whose seconds are this double beside ours, the fraction so many units away at most; and whether it is the same double */
+static int compare_pairs(const mundreff_stamp *at, const moment *ours, double seconds, int64_t allowed)
+{
+    double midnight, fraction;
+    int64_t back;
+    uint32_t marks;
+    if (!expect("its pair", at, seconds, answered(eraDtf2d("UTC", (int)at->year, (int)at->month, (int)at->day, (int)at->hour, (int)at->minute, seconds, &midnight, &fraction))))
+        return 0;
+    expect("the midnight", at, seconds, midnight == ours->midnight);
+    expect("the fraction", at, seconds, units_apart(fraction, ours->fraction) <= allowed);
+    expect("the instant of ERFA's pair", at, seconds, mundreff_read_julian(&table, MUNDREFF_UTC, midnight, fraction, &back, &marks) == MUNDREFF_OK && back == ours->instant);
+    return fraction == ours->fraction;
 }
 
 static void compare(const mundreff_stamp *at)
 {
     const double nearest = (at->second * 1e6 + at->microsecond) / 1e6, put_together = at->second + at->microsecond * 1e-6;
     const int64_t allowed = at->hour == 0 && at->minute == 0 && at->second < 3 ? 2 : 1;
-    int64_t instant, back;
-    double midnight, fraction, d1, d2, tai1, tai2;
+    moment ours;
+    double tai1, tai2;
     uint32_t marks;
-    int status;
-    if (mundreff_instant_of(&table, at, &instant, &marks) != MUNDREFF_OK || mundreff_write_julian(&table, instant, MUNDREFF_UTC, &midnight, &fraction, &marks) != MUNDREFF_OK) {
-        expect("our pair", at, 0);
+    if (!expect("our pair", at, nearest, mundreff_instant_of(&table, at, &ours.instant, &marks) == MUNDREFF_OK && mundreff_write_julian(&table, ours.instant, MUNDREFF_UTC, &ours.midnight, &ours.fraction, &marks) == MUNDREFF_OK))
         return;
-    }
-    expect("its pair", at, erfa_pair(at, nearest, &d1, &d2));
-    expect("the midnight", at, d1 == midnight);
-    expect("the fraction", at, units_apart(d2, fraction) <= 1);
-    expect("the instant of ERFA's pair", at, mundreff_read_julian(&table, MUNDREFF_UTC, d1, d2, &back, &marks) == MUNDREFF_OK && back == instant);
     asked++;
-    same += d2 == fraction;
-    expect("its pair, seconds put together", at, erfa_pair(at, put_together, &d1, &d2));
-    expect("the midnight, seconds put together", at, d1 == midnight);
-    expect("the fraction, seconds put together", at, units_apart(d2, fraction) <= allowed);
-    expect("the instant of that pair", at, mundreff_read_julian(&table, MUNDREFF_UTC, d1, d2, &back, &marks) == MUNDREFF_OK && back == instant);
-    status = eraUtctai(midnight, fraction, &tai1, &tai2);
-    expect("TAI", at, (status == 0 || status == 1) && joined(tai1, tai2) == instant);
+    same += compare_pairs(at, &ours, nearest, 1);
+    compare_pairs(at, &ours, put_together, allowed);
+    expect("TAI", at, nearest, answered(eraUtctai(ours.midnight, ours.fraction, &tai1, &tai2)) && joined(tai1, tai2) == ours.instant);
 }
 
 /* the stamp at a microsecond of a day; the 86,401st second is the 60th of the last minute */

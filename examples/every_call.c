@@ -179,26 +179,19 @@ static void pairs(void)
     expect("write_julian refused", mundreff_write_julian(&table, INT64_MIN, MUNDREFF_TAI, &midnight, &fraction, marked()) == MUNDREFF_RANGE && midnight == 0 && fraction == 0 && marks == 0);
 }
 
+/* what is read from a UTC pair: a number, and an instant, 0 where it is refused */
+static int reads(const mundreff_table *t, double midnight, double fraction, uint32_t no, int64_t at)
+{
+    int64_t instant = 9;
+    return mundreff_read_julian(t, MUNDREFF_UTC, midnight, fraction, &instant, marked()) == no && instant == at && marks == 0;
+}
+
 /* a UTC instant, its pair and back */
 static int is_pair(const mundreff_table *t, int64_t at, double of_midnight, double of_fraction)
 {
     double midnight = 9, fraction = 9;
-    int64_t instant = 9;
-    int all = mundreff_write_julian(t, at, MUNDREFF_UTC, &midnight, &fraction, marked()) == MUNDREFF_OK && midnight == of_midnight && fraction == of_fraction && marks == 0;
-    all &= mundreff_read_julian(t, MUNDREFF_UTC, of_midnight, of_fraction, &instant, marked()) == MUNDREFF_OK && instant == at && marks == 0;
-    return all;
-}
-
-static int is_read(const mundreff_table *t, double midnight, double fraction, int64_t at)
-{
-    int64_t instant = 9;
-    return mundreff_read_julian(t, MUNDREFF_UTC, midnight, fraction, &instant, marked()) == MUNDREFF_OK && instant == at && marks == 0;
-}
-
-static int is_no_pair(const mundreff_table *t, double midnight, double fraction, uint32_t no)
-{
-    int64_t instant = 9;
-    return mundreff_read_julian(t, MUNDREFF_UTC, midnight, fraction, &instant, marked()) == no && instant == 0 && marks == 0;
+    int is_written = mundreff_write_julian(t, at, MUNDREFF_UTC, &midnight, &fraction, marked()) == MUNDREFF_OK && midnight == of_midnight && fraction == of_fraction && marks == 0;
+    return is_written && reads(t, of_midnight, of_fraction, MUNDREFF_OK, at);
 }
 
 /* On UTC a day counts the seconds that the table gives it: 31 December 2016 has 86,401, and 30 June 1972 86,399 where its last is taken out. */
@@ -213,14 +206,14 @@ static void utc_pairs(void)
     expect("one second later it is another", is_pair(&table, added + 1250000, 2457754.5, 250000.0 / 86400000000.0));
     expect("one second before it too", is_pair(&table, added - 750000, 2457753.5, 86399250000.0 / longer));
     expect("the longer day's last microsecond", is_pair(&table, added + 999999, 2457753.5, 86400999999.0 / longer));
-    expect("a tie is read as the later microsecond", is_read(&table, 2457753.5, 1 / 128.0, added - 86400000000 + 675007813));
-    expect("what rounds up to the day's length is the next midnight", is_read(&table, 2457753.5, below_one, added + 1000000));
+    expect("a tie is read as the later microsecond", reads(&table, 2457753.5, 1 / 128.0, MUNDREFF_OK, added - 86400000000 + 675007813));
+    expect("what rounds up to the day's length is the next midnight", reads(&table, 2457753.5, below_one, MUNDREFF_OK, added + 1000000));
     expect("a table with a second taken out", mundreff_read_block(taken_out, 2, &place, &short_june) == MUNDREFF_OK);
     expect("the shorter day's last microsecond", is_pair(&short_june, -867931191000001, 2441498.5, 86398999999.0 / shorter));
     expect("its next is the next midnight", is_pair(&short_june, -867931191000000, 2441499.5, 0));
-    expect("a fraction names no second that is taken out", is_read(&short_june, 2441498.5, 86399500000.0 / 86400000000.0, -867931191499994));
-    expect("a fraction of 1 is refused", is_no_pair(&table, 2457753.5, 1, MUNDREFF_NUMBER) && is_no_pair(&short_june, 2441498.5, 1, MUNDREFF_NUMBER));
-    expect("the end of 9999 is refused", is_no_pair(&table, 5373483.5, below_one, MUNDREFF_RANGE) && is_no_pair(&short_june, 5373484.5, 0, MUNDREFF_RANGE));
+    expect("a fraction names no second that is taken out", reads(&short_june, 2441498.5, 86399500000.0 / 86400000000.0, MUNDREFF_OK, -867931191499994));
+    expect("a fraction of 1 is refused", reads(&table, 2457753.5, 1, MUNDREFF_NUMBER, 0) && reads(&short_june, 2441498.5, 1, MUNDREFF_NUMBER, 0));
+    expect("the end of 9999 is refused", reads(&table, 5373483.5, below_one, MUNDREFF_RANGE, 0) && reads(&short_june, 5373484.5, 0, MUNDREFF_RANGE, 0));
 }
 
 static void ticks(void)

@@ -810,12 +810,15 @@ FRACTIONS_OF_KINDS = (
 )
 
 
-LONGER_DAY, SHORTER_DAY = DAY + SECOND, DAY - SECOND  # UTC days with a second added and taken out
+LONGER_DAY = DAY + SECOND  # a UTC day with a second added
 
 
 def parts_of_ties(length):
-    """The fractions of a day that lie exactly between two microseconds are odd parts of this power of two."""
-    return 2**14 if length == DAY else 2**7
+    """The fractions of a day that lie exactly between two microseconds are odd parts of this power of two.
+
+    It is the greatest that divides twice the length: 2^14 for 86,400 seconds, and 2^7 for one more or one less.
+    """
+    return 2 * (length & -length)
 
 
 def tie(odd, length=DAY):
@@ -866,9 +869,17 @@ def length_at(table, scale, midnight):
     return second.length_of_day(table, scale, int(midnight - FIRST_MIDNIGHT))
 
 
+def last_midnight_before(month):
+    return FIRST_MIDNIGHT + second.FIRST_DAY[month] - 1
+
+
+def pair_line(scale, midnight, fraction):
+    return call('read_julian', scale, bits_word(midnight), bits_word(fraction))
+
+
 def pair_at_edge(dice, table, scale):
     """On the day before such a month, about its last two seconds."""
-    midnight = FIRST_MIDNIGHT + second.FIRST_DAY[month_at_edge(dice, table)] - 1
+    midnight = last_midnight_before(month_at_edge(dice, table))
     length = length_at(table, scale, midnight)
     boundary = length - dice.pick((2, 1, 1, 0)) * SECOND
     if dice.chance(0.5):
@@ -1054,7 +1065,7 @@ class Lines:
 
     def line_read_julian(self):
         scale = random_scale(self.dice)
-        return call('read_julian', scale, *map(bits_word, random_pair(self.dice, self.table, scale)))
+        return pair_line(scale, *random_pair(self.dice, self.table, scale))
 
     def line_start(self):
         return 'start'
@@ -1157,7 +1168,7 @@ def lines_of_instant(table, instant, scales=SCALES, pictures=PICTURES, digits=0)
         for picture in pictures:
             text = second.text_of_fields(picture, stamp.label, stamp.microsecond, digits)
             yield text_line(scale, text.decode())
-        yield call('read_julian', scale, *map(bits_word, second.write_julian(table, instant, scale)))
+        yield pair_line(scale, *second.write_julian(table, instant, scale))
 
 
 def bulletin_c():
@@ -1227,7 +1238,7 @@ def calendar():
         yield call('read_text', number, '-')
         yield call('write_text', 2**63 - 1, 0, number, 0, 0)
         yield call('write_julian', 2**63 - 1, number)
-        yield call('read_julian', number, bits_word(NOT_FINITE[2]), bits_word(1.0))
+        yield pair_line(number, NOT_FINITE[2], 1.0)
     for text in ('1971-13-32T24:60:61', '1972-13-32T24:60:61', '1972-366T24:60:61', '1973-366T24:60:61', '1971-000T24:00:00',
                  '1972-06-30T24:59:60',
                  '1972-06-30T23:59:61', '1972-06-30T12:30:60', '1972-06-29T23:59:60', '9999-12-31T23:59:60', '9999-12-31T23:59:59.999999',
@@ -1252,8 +1263,8 @@ def one_of_each_call(scale):
     yield call('write_text', -867_931_190_000_000, 0, scale, 6, 26)
     yield call('write_text', -2**63, 0, scale, 6, 0)
     yield call('write_julian', -867_931_190_000_000, scale)
-    yield call('read_julian', scale, bits_word(2441498.5), bits_word(0.5))
-    yield call('read_julian', scale, bits_word(0.0), bits_word(1.0))
+    yield pair_line(scale, 2441498.5, 0.5)
+    yield pair_line(scale, 0.0, 1.0)
 
 
 def tables():
@@ -1365,32 +1376,25 @@ def doubles():
     yield table_line(N)
     for midnight in MIDNIGHTS:
         for fraction in (0.0, 0.5, 1.0):
-            yield call('read_julian', TAI, bits_word(midnight), bits_word(fraction))
+            yield pair_line(TAI, midnight, fraction)
     taken_out = 2441498.5  # 1972-06-30, whose 23:59:59 N takes out
     for fraction in FRACTIONS_OF_KINDS:
         for midnight in (taken_out, LAST_MIDNIGHT, -0.5, NOT_FINITE[0]):
-            yield call('read_julian', UTC, bits_word(midnight), bits_word(fraction))
-    for microsecond in microseconds_of_day(DAY):
-        for fraction in fractions_beside_half(microsecond) + fractions_of_microsecond(microsecond):
-            for scale, midnight in ((UTC, taken_out), (UTC, LAST_MIDNIGHT), (GPS, LAST_MIDNIGHT)):
-                yield call('read_julian', scale, bits_word(midnight), bits_word(fraction))
+            yield pair_line(UTC, midnight, fraction)
+    for scale, midnight in ((UTC, taken_out), (UTC, LAST_MIDNIGHT), (GPS, LAST_MIDNIGHT)):
+        length = length_at(N, scale, midnight)
+        for microsecond in microseconds_of_day(length):
+            for fraction in fractions_beside_half(microsecond, length) + fractions_of_microsecond(microsecond, length):
+                yield pair_line(scale, midnight, fraction)
     yield '# ties: odd parts of 2^14'
     for odd in (1, 3, 5, 7, 8_191, 8_193, 16_379, 16_381, 16_383):
         for steps in (-1, 0, 1):
-            yield call('read_julian', TAI, bits_word(2451544.5), bits_word(beside(tie(odd), steps)))
+            yield pair_line(TAI, 2451544.5, beside(tie(odd), steps))
     yield '# the pair of an added second'
     yield table_line(BULLETIN)
     added = second.instant_of(BULLETIN, UTC, Label(2016, 12, 31, 23, 59, 60), 250_000)
     for instant in (added - SECOND, added, added + SECOND):
         yield from lines_of_instant(BULLETIN, instant, scales=(UTC,), digits=2)
-
-
-def pair_line(scale, midnight, fraction):
-    return call('read_julian', scale, bits_word(midnight), bits_word(fraction))
-
-
-def last_midnight_before(month):
-    return FIRST_MIDNIGHT + second.FIRST_DAY[month] - 1
 
 
 def rows_of_quasi_julian_dates():
@@ -1536,13 +1540,14 @@ def julian_dates_of_vouched_month():
     """The vouched month's last day rounds into the next month, beyond; the day before a step into the last entry's, not beyond."""
     for table, month in ((BULLETIN, 541), (N, 7), (N, LAST_MONTH + 1)):
         yield from (table_line(table), vouch_line(month))
-        last_day = FIRST_MIDNIGHT + second.FIRST_DAY[month] - 1
+        last_day = last_midnight_before(month)
         for fraction in fractions_beside_half(DAY - 1)[1:] + [beside(1.0, -1)]:
             for scale in (UTC, GPS):
-                yield call('read_julian', scale, bits_word(last_day), bits_word(fraction))
-        yield call('read_julian', UTC, bits_word(last_day + 1), bits_word(0.0))
-    for microsecond in (DAY - SECOND - 1, DAY - SECOND, DAY - 1):
-        yield call('read_julian', UTC, bits_word(2441498.5), bits_word(microsecond / DAY))
+                yield pair_line(scale, last_day, fraction)
+        yield pair_line(UTC, last_day + 1, 0.0)
+    length = length_at(N, UTC, 2441498.5)
+    for microsecond in (length - SECOND - 1, length - SECOND, length - 1):
+        yield pair_line(UTC, 2441498.5, microsecond / length)
     for table, month in ((BULLETIN, 540), (N, 6)):
         yield from (table_line(table), vouch_line(month + 1))
         length = length_at(table, UTC, last_midnight_before(month))
@@ -1581,7 +1586,7 @@ def refusals_beyond_vouched_month():
         yield call('write_text', last, picture, scale, digits, room)
     for midnight, fraction in ((LAST_MIDNIGHT, 0.5), (LAST_MIDNIGHT, 1.0), (NOT_FINITE[2], 0.5), (LAST_MIDNIGHT + 1, 0.5),
                                (LAST_MIDNIGHT, beside(1.0, -1))):
-        yield call('read_julian', UTC, bits_word(midnight), bits_word(fraction))
+        yield pair_line(UTC, midnight, fraction)
     yield from ('tick 9999 12 31 23 59 58', 'tick 9999 12 31 23 59 59')
 
 

@@ -124,10 +124,14 @@ class Stamp(NamedTuple):
     microsecond: int
 
 
+def second_of_day(label):
+    """86,400 in an added second."""
+    return label.hour * 3600 + label.minute * 60 + label.second
+
+
 def counted_seconds(label):
     """Seconds from 1972-01-01 00:00:00 to the label when every day has 86,400."""
-    day = day_number(label.year, label.month, label.day)
-    return day * DAY_SECONDS + label.hour * 3600 + label.minute * 60 + label.second
+    return day_number(label.year, label.month, label.day) * DAY_SECONDS + second_of_day(label)
 
 
 def label_of_counted_seconds(seconds):
@@ -691,11 +695,11 @@ def length_of_day(table, scale, day):
 
 
 def write_julian(table, instant, scale):
-    label, microsecond = stamp_of(table, instant, scale)[1:]
-    day = day_number(label.year, label.month, label.day)
-    second_of_day = label.hour * 3600 + label.minute * 60 + label.second  # 86,400 in an added second
+    stamp = stamp_of(table, instant, scale)
+    day = day_number(stamp.label.year, stamp.label.month, stamp.label.day)
+    microsecond_of_day = second_of_day(stamp.label) * SECOND + stamp.microsecond
     # Python divides two whole numbers with one correct rounding, whatever their size.
-    return MIDNIGHT_OF_DAY_0 + day, (second_of_day * SECOND + microsecond) / length_of_day(table, scale, day)
+    return MIDNIGHT_OF_DAY_0 + day, microsecond_of_day / length_of_day(table, scale, day)
 
 
 def is_whole_and_half(double):

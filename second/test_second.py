@@ -585,14 +585,18 @@ def test_readings_of_julian_dates():
     expect('write_julian -43200000000 1', '0 4142b42c40000000 0000000000000000')
 
 
+DAYS_OF_EACH_LENGTH = (  # each with its table, scale, first instant, midnight and microseconds
+    (generate.BULLETIN, TAI, -43_200_000_000, 2451544.5, 86_400_000_000),
+    (generate.BULLETIN, UTC, -43_168_000_000, 2451544.5, 86_400_000_000),
+    (generate.BULLETIN, UTC, -868_017_590_000_000, 2441498.5, 86_401_000_000),
+    (generate.N, UTC, -868_017_590_000_000, 2441498.5, 86_399_000_000),
+)
+
+
 def test_fraction_is_rounded_once():
     """No double lies nearer to the exact fraction, which is off by at most one part in 2^54 of that day, whatever its length."""
     dice = generate.Dice(2)
-    b, n = second.table_of_bulletin_c(), second.read_block(bytes.fromhex('020d'))
-    for table, scale, first, day, length in ((b, TAI, -43_200_000_000, 2451544.5, 86_400_000_000),
-                                             (b, UTC, -43_168_000_000, 2451544.5, 86_400_000_000),
-                                             (b, UTC, -868_017_590_000_000, 2441498.5, 86_401_000_000),
-                                             (n, UTC, -868_017_590_000_000, 2441498.5, 86_399_000_000)):
+    for table, scale, first, day, length in DAYS_OF_EACH_LENGTH:
         for microsecond in [1, 3, 7, length - 1, *(dice.below(length) for _ in range(2_000))]:
             midnight, fraction = second.write_julian(table, first + microsecond, scale)
             exact = Fraction(microsecond, length)
@@ -600,6 +604,18 @@ def test_fraction_is_rounded_once():
             assert midnight == day and error <= Fraction(1, 2**54)
             assert all(error <= abs(Fraction(generate.beside(fraction, steps)) - exact) for steps in (-1, 1))
             assert fraction == float(microsecond) / float(length)  # and one division of two doubles gives it
+
+
+def test_product_is_exact():
+    """Just below a half a product of doubles leads to the later microsecond; the nearest one is read, and of the next double the later."""
+    dice = generate.Dice(6)
+    for table, scale, first, day, length in DAYS_OF_EACH_LENGTH:
+        for below in generate.fractions_rounded_otherwise(dice, length, 200):
+            later = math.floor(below * length + 0.5)
+            for fraction, expected in ((below, later - 1), (generate.beside(below, 1), later)):
+                microsecond = second.read_julian(table, scale, day, fraction) - first
+                assert abs(microsecond - Fraction(fraction) * length) < Fraction(1, 2), fraction.hex()
+                assert microsecond == expected, fraction.hex()
 
 
 # ---------------------------------------------------------------------------
@@ -1060,8 +1076,7 @@ def expect_own_pairs(table, scale, instants):
 def test_no_pair_is_shared():
     """On every day with a step of every kind of table and about both its midnights, and on the uniform scales on the same days."""
     dice = generate.Dice(4)
-    b = second.table_of_bulletin_c()
-    for table in (b, *(table for _, table in generate.good_tables())):
+    for table in (generate.BULLETIN, *(table for _, table in generate.good_tables())):
         for month in list(table.steps)[:2] + list(table.steps)[-2:]:
             end = table.held_from[table.used_months.index(month)] * second.SECOND  # as an instant, the midnight after the step
             begin = end - second.DAY - table.steps[month] * second.SECOND
@@ -1070,7 +1085,7 @@ def test_no_pair_is_shared():
             inside = [dice.between(begin, end) for _ in range(20)]
             for scale in (UTC, TAI):
                 expect_own_pairs(table, scale, sorted({*near, *inside}))
-    for table, midnight in ((b, 536_500_837_000_000), (second.read_block(bytes.fromhex('020d')), -867_931_191_000_000)):
+    for table, midnight in ((generate.BULLETIN, 536_500_837_000_000), (generate.N, -867_931_191_000_000)):
         for scale in generate.SCALES:
             expect_own_pairs(table, scale, range(midnight - 300, midnight + 300))
             expect_own_pairs(table, scale, range(midnight - 3 * second.SECOND, midnight + 3 * second.SECOND, 7_919))
@@ -1105,9 +1120,6 @@ def test_pairs_of_random_lines():
                 if Fraction(fraction) * length % 1 == Fraction(1, 2):
                     ties.add(length)
     assert lengths == ties == {86_399_000_000, 86_400_000_000, 86_401_000_000}
-    for length in sorted(lengths):
-        for fraction in generate.fractions_rounded_otherwise(generate.Dice(6), length, 5):
-            assert math.floor(fraction * length + 0.5) != second.nearest_microsecond(fraction, length)
 
 
 def test_marks_against_instants():
