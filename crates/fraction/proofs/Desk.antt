@@ -32,7 +32,14 @@ desk =
       minus-zero = refl;
       below-zero = refl;
       fraction-one = refl;
+      fraction-nan = refl;
+      fraction-infinite = refl;
       minus-half = refl;
       noon = refl;
+      large = refl;
+      quarter = refl;
+      nothing-half = refl;
       too-large = refl;
+      half-infinite = refl;
+      half-nan = refl;
     }

@@ -2,7 +2,7 @@
 -- Assumes nothing.
 use mathlib.Core.Path.{_≡_}
 use mathlib.Core.Bool.{true, false}
-use Prim.Native.Nat.{_*_, _^_}
+use Prim.Native.Nat.{_+_, _*_, _^_}
 use lib.IntN.{pos, negsuc}
 use lib.Ieee.{nan, inf, fin, binary64, ofBits}
 use Rattle.fraction.specs.Fraction.{fractionOf, isFraction, isHalf, nearestOf, nearestAt}
@@ -39,7 +39,14 @@ pub record Desk : Type 0 where
   pub minus-zero : isFraction (fin true 0 (pos 0)) ≡ true
   pub below-zero : isFraction (fin true 1 (negsuc 1073)) ≡ false
   pub fraction-one : isFraction (fin false 1 (pos 0)) ≡ false
-  -- -0.5 is a half, 2451545.0 and 2^52 are not
+  pub fraction-nan : isFraction nan ≡ false
+  pub fraction-infinite : isFraction (inf false) ≡ false
+  -- -0.5 and 2^51 + 0.5 are halves; 2451545.0, 2451544.25, minus zero, 2^52, infinities and NaN are none
   pub minus-half : isHalf (fin true 1 (negsuc 0)) ≡ true
   pub noon : isHalf (fin false 2451545 (pos 0)) ≡ false
+  pub large : isHalf (fin false (2 ^ 52 + 1) (negsuc 0)) ≡ true
+  pub quarter : isHalf (fin false 9806177 (negsuc 1)) ≡ false
+  pub nothing-half : isHalf (fin true 0 (pos 0)) ≡ false
   pub too-large : isHalf (fin false 1 (pos 52)) ≡ false
+  pub half-infinite : isHalf (inf true) ≡ false
+  pub half-nan : isHalf nan ≡ false

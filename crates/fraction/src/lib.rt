@@ -1,4 +1,4 @@
-// A part of a whole as a double, and the part that a double stands for, exactly: the one place where a double's bits are looked at.
+// A part of a whole as a double, and the part that a double stands for, exactly: the one place that reckons with a double's bits.
 // A whole is factor * 2^shift: a day of 86,400 seconds is 1350000000 * 2^6 microseconds, a second 1953125 * 2^9 nanoseconds.
 ghost use mathlib.Core.Path.{_≡_};
 ghost use Prim.Native.Nat.{_*_, _^_, _≤_, _<_};

@@ -16,7 +16,7 @@ use Rattle.leap.proofs.Facts.{accepted-to}
 use Rattle.leap.proofs.Moves.{at-first}
 use Rattle.labels.specs.declared.Reading.{Reading}
 use Rattle.labels.specs.Labels.{label, at, monthOf}
-use Rattle.labels.specs.Seconds.{secondOf, microOf, firstReading}
+use Rattle.labels.specs.Seconds.{secondOf, dayCount, microOf, firstReading}
 use Rattle.labels.proofs.Years.{days-last, first-micro}
 use Rattle.stamp.specs.declared.Scale.{Scale}
 use Rattle.stamp.specs.declared.Scale.the-variants.{Utc, Tai, Tdt, Gps}
@@ -37,7 +37,7 @@ noon : secondOf (label 2000 1 1 12 0 0) ≡ 63113947200
 unfolding secondOf
 noon = omega (arith, days-2000)
 
-midnight : (y m d n x : ℕ) → daysBefore (monthOf (label y m d 0 0 0)) + (d - 1) ≡ x → 1721059 + x ≡ n → x < 2 ^ 51 → MidnightIs y m d n
+midnight : (y m d n x : ℕ) → dayCount (label y m d 0 0 0) ≡ x → 1721059 + x ≡ n → x < 2 ^ 51 → MidnightIs y m d n
 midnight y m d n x e f h =
     subst (λ (v : ℕ). HasValue (midnightOf v) false (2 * n + 1) 2) (sym e)
     (subst (λ (v : ℕ). HasValue (midnightOf x) false (2 * v + 1) 2) f (midnight-value x h))
@@ -89,8 +89,8 @@ constants =
       the-month-after = (refl, (refl, refl));
       months-repeat = length-again;
       days-repeat = days-again;
-      first-day = (omega (arith, days-1972), refl);
-      last-day = (omega (arith, days-last), refl);
+      first-day = omega (arith, days-1972);
+      last-day = omega (arith, days-last);
       microseconds-of-a-day = refl;
       midnight-of-1972 = midnight 1972 1 1 2441317 720258 (omega (arith, days-1972)) refl (omega arith);
       midnight-of-2000 = midnight 2000 1 1 2451544 730485 (omega (arith, days-2000)) refl (omega arith);

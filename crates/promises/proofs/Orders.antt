@@ -30,15 +30,13 @@ use Rattle.leap.specs.Leap.{accepted, offsetAt}
 use Rattle.labels.specs.declared.Label.{Label}
 use Rattle.labels.specs.declared.Reading.{Reading}
 use Rattle.labels.specs.Labels.{label, whole, monthOf, realMonth, realDay, minuteLength, labelTests}
-use Rattle.labels.specs.Seconds.{dayCount, axisOf, firstReading, lastReading as last-reading, inYears as inLabels}
-use Rattle.labels.proofs.Years.{days-last}
+use Rattle.labels.specs.Seconds.{axisOf, firstReading, lastReading as last-reading, inYears as inLabels}
 use Rattle.stamp.specs.declared.Scale.{Scale}
 use Rattle.stamp.specs.declared.InstantAnswer.the-variants.{At, Refused as NoInstant}
 use Rattle.stamp.specs.declared.StampAnswer.the-variants.{Stamped, Refused as NoStamp}
 use Rattle.stamp.specs.Scales.{scaleOf, scaleTests, offsetsOf, mostSecond, toInstant, toAxis, instantFor}
 use Rattle.stamp.specs.Stamps.{instantOf, instantResults, stampOf, stampResults}
 use Rattle.stamp.specs.Back.{inRange, stampAt}
-use Rattle.stamp.specs.Days.{lastDay}
 use Rattle.stamp.specs.Promise.{stamp}
 use Rattle.stamp.proofs.Scales.{to-instant-is, to-axis-is}
 use Rattle.clock.specs.declared.TickAnswer.{TickAnswer}
@@ -211,10 +209,8 @@ module _ (t : Table) where
   read-julian : (k : ℕ) (p : JulianDate) → instantResults (readJulian t k p) .0 ≡ verdict (readJulianTests t k p)
   unfolding readJulian
   read-julian k p =
-      let o = offsetsOf t (scaleOf k) in
-      let last : dayCount (last-reading .label) ≡ lastDay = omega (arith, days-last) in
-      refusing-map (λ a. instantResults a .0) NoInstant (scaleTests t k ++ readTests o p) _
-      ∙ rw (joined (isHalf (p .midnight)) (isFraction (p .fraction)), last)
+      refusing-map (λ a. instantResults a .0) NoInstant (scaleTests t k ++ readTests (offsetsOf t (scaleOf k)) p) _
+      ∙ rw (joined (isHalf (p .midnight)) (isFraction (p .fraction)))
 
   tick-the-clock : (l : Label) → tickResults (tick t l) .0 ≡ verdict (tickTests t l)
   unfolding tick

@@ -67,7 +67,7 @@ use Rattle.text.proofs.Promise.{promised}
 use Rattle.julian.specs.declared.JulianAnswer.{JulianAnswer}
 use Rattle.julian.specs.declared.JulianAnswer.the-variants.{Dated, Refused as NoDate}
 use Rattle.julian.specs.Dates.{writeJulian, julianResults, dayRead, readJulian}
-use Rattle.julian.specs.Marks.{markedPair}
+use Rattle.julian.specs.Marks.{markedPair, beyondRead}
 use Rattle.julian.proofs.Dates.{read-given}
 use Rattle.julian.proofs.Marks.{month-read}
 use Rattle.promises.specs.Vouched.{Beside, Beyond, BeyondAt, Marked, FullLength, SameAnswers, until2017, VouchedDesk, RequestA2}
@@ -199,7 +199,7 @@ module _ (t : Table) where
             );
         read-julian = λ k p.
             let mark : ℕ → Type 0 = λ m. beyondOn (t .vouched) (scaleOf k) m ≡ true in
-            let i = instant-mark (readJulian t k p) (beyondOn (t .vouched) (scaleOf k) (monthOfDay (dayRead (offsetsOf t (scaleOf k)) p))) in (
+            let i = instant-mark (readJulian t k p) (beyondRead t (scaleOf k) p) in (
               λ e.
                   let w = i .0 e in
                   let g = read-given t k p (w .0) (at-instant _ (w .0) (w .1 .0)) in

@@ -10,13 +10,12 @@ use Rattle.leap.specs.declared.Table.{Table}
 use Rattle.leap.specs.Leap.{accepted, epoch, offsetAt, lastEntryMonth as tableMonths}
 use Rattle.labels.specs.declared.Reading.{Reading}
 use Rattle.labels.specs.Labels.{label, at, monthOf}
-use Rattle.labels.specs.Seconds.{secondOf, dayCount, microOf, firstMonth, lastMonth, endMonth, firstReading}
+use Rattle.labels.specs.Seconds.{secondOf, dayCount, microOf, firstMonth, lastMonth, endMonth, firstDay, lastDay, firstReading}
 use Rattle.stamp.specs.declared.Scale.{Scale}
 use Rattle.stamp.specs.declared.Scale.the-variants.{Utc, Tai, Tdt, Gps}
 use Rattle.stamp.specs.Scales.{scaleOf, scaleNumber, instantFor}
-use Rattle.stamp.specs.Days.{firstDay, lastDay}
 use Rattle.julian.specs.Midnight.{midnightOf}
-use Rattle.julian.specs.Promise.{day}
+use Rattle.julian.specs.Promise.{evenDay}
 
 -- the Julian midnight of a date is n and a half
 abbrev pub MidnightIs : ℕ → ℕ → ℕ → ℕ → Type 0
@@ -48,10 +47,10 @@ pub record Constants : Type 0 where
   pub months-repeat : (m : ℕ) → monthLength (m + 12 * 400) ≡ monthLength m
   pub days-repeat : (m : ℕ) → daysBefore (m + 12 * 400) ≡ daysBefore m + 146097
   -- 1972-01-01 and 9999-12-31 are the days 720,258 and 3,652,424
-  pub first-day : (dayCount (label 1972 1 1 0 0 0) ≡ 720258) × (firstDay ≡ 720258)
-  pub last-day : (dayCount (label 9999 12 31 0 0 0) ≡ 3652424) × (lastDay ≡ 3652424)
-  -- a day without a step has 86,400,000,000 microseconds
-  pub microseconds-of-a-day : day ≡ 86400 * 1000000
+  pub first-day : dayCount (label 1972 1 1 0 0 0) ≡ firstDay
+  pub last-day : dayCount (label 9999 12 31 0 0 0) ≡ lastDay
+  -- the day that the pairs of uniform scales count by
+  pub microseconds-of-a-day : evenDay ≡ 86400 * 1000000
   -- 2441317.5, 2451544.5 and 5373483.5
   pub midnight-of-1972 : MidnightIs 1972 1 1 2441317
   pub midnight-of-2000 : MidnightIs 2000 1 1 2451544

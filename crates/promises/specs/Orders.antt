@@ -21,7 +21,7 @@ use Rattle.leap.specs.Leap.{accepted, offsetAt}
 use Rattle.labels.specs.declared.Label.{Label}
 use Rattle.labels.specs.declared.Reading.{Reading}
 use Rattle.labels.specs.Labels.{whole, realYear, realMonth, realDay, realClock, hasSecond}
-use Rattle.labels.specs.Seconds.{dayCount, firstReading, lastReading}
+use Rattle.labels.specs.Seconds.{firstReading, lastReading, lastDay}
 use Rattle.stamp.specs.declared.Scale.{Scale}
 use Rattle.stamp.specs.Scales.{scaleOf, knownScale, offsetsOf, mostSecond, instantFor}
 use Rattle.stamp.specs.Stamps.{instantOf, instantResults, stampOf, stampResults}
@@ -115,7 +115,7 @@ readJulianTests t k p =
     ∷ (accepted t, TABLE)
     ∷ (isHalf (p .midnight) && isFraction (p .fraction), NUMBER)
     ∷ (midnightInYears (p .midnight), RANGE)
-    ∷ (leb (dayRead (offsetsOf t (scaleOf k)) p) (dayCount (lastReading .label)), RANGE)
+    ∷ (leb (dayRead (offsetsOf t (scaleOf k)) p) lastDay, RANGE)
     ∷ []
 
 -- ---- a table alone, and the clock
