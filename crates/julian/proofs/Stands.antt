@@ -1,6 +1,6 @@
 -- What a pair is read as lies after its midnight by what the fraction is nearest to, be it of that day or the next midnight.
 -- Assumes nothing.
-use mathlib.Core.Path.{_≡_, refl, sym, ap, ap₂, _∙_}
+use mathlib.Core.Path.{_≡_, sym, ap, ap₂, _∙_}
 use mathlib.Core.Bool.{true}
 use Prim.Native.Nat.{ℕ, _+_, _≤_}
 use native.Mathlib.Omega.{arith}
@@ -9,10 +9,10 @@ use lib.IntN.{ℤ, pos, _+ℤ_}
 use Rattle.laws.proofs.Cases.{by-test, by-order}
 use Rattle.leap.specs.declared.Table.{Table}
 use Rattle.leap.specs.Leap.{accepted}
-use Rattle.leap.proofs.Facts.{Accepted, accepted-to}
+use Rattle.leap.proofs.Facts.{accepted-to}
 use Rattle.labels.specs.declared.Reading.{Reading}
 use Rattle.labels.specs.Labels.{Offsets}
-use Rattle.labels.specs.Seconds.{dayCount, microOfDay, firstDay, lastDay}
+use Rattle.labels.specs.Seconds.{dayCount, microOfDay, lastDay}
 use Rattle.labels.specs.Lengths.{dayMicros}
 use Rattle.labels.proofs.Admitted.{Admitted, admitted-to, admitted-from}
 use Rattle.labels.proofs.Lengths.{day-range}
@@ -64,8 +64,8 @@ module _ (t : Table) (k : ℕ) (p : JulianDate) (fine : accepted t ≡ true) (i 
   by-day r a n u e f = instant-by-day t s r (a .exists .day-low) (a .exists .day-high) ∙ ap₂ (λ (n u : ℕ). instantAfter s (dayStart o n) u) e f
 
   -- a microsecond of a day has a reading, which stands for its instant
-  reads-on : (n u : ℕ) → firstDay ≤ n → n ≤ lastDay → (q : (r : Reading) × Admitted o 60 r × (dayCount (r .label) ≡ n) × (microOfDay r ≡ u)) → Reads t s (q .0) (instantAfter s (dayStart o n) u)
-  reads-on n u l h q =
+  reads-on : (n u : ℕ) (q : (r : Reading) × Admitted o 60 r × (dayCount (r .label) ≡ n) × (microOfDay r ≡ u)) → Reads t s (q .0) (instantAfter s (dayStart o n) u)
+  reads-on n u q =
       let a = on-scale t fine s (q .0) (q .1) in
       record { is-admitted = admitted-from o (mostSecond s) (q .0) a; instant-is = by-day (q .0) a n u (q .2) (q .3) }
 
@@ -81,7 +81,7 @@ module _ (t : Table) (k : ℕ) (p : JulianDate) (fine : accepted t ≡ true) (i 
           reads = g .reads;
           midnight = q .0;
           begins = begins;
-          midnight-reads = reads-on d 0 (y .0) (y .1) q;
+          midnight-reads = reads-on d 0 q;
           its-day = q .2;
           its-beginning = q .3;
           after-it = sym (g .reads .instant-is) ∙ by-day (g .reading) a (dayRead o p) (microRead o p) (g .day-is) (g .micro-is) ∙ read-after;
@@ -94,10 +94,9 @@ module _ (t : Table) (k : ℕ) (p : JulianDate) (fine : accepted t ≡ true) (i 
         let begun : g .begins ≡ begins = sym (g .midnight-reads .instant-is) ∙ by-day (g .midnight) a d 0 (g .its-day) (g .its-beginning) in
         let there : instantAfter s (dayStart o (dayRead o p)) (microRead o p) ≡ x = read-after ∙ ap (λ (z : ℤ). z +ℤ pos (nearestIn o p)) (sym begun) ∙ sym (g .after-it) in
         let range : inRange t s x ≡ true = in-range-reads t fine s x .1 (g .reading, g .reads) in
-        let y = day-years p (i .in-years) in
         let high = in-last-years there range in
         let q = reading-on o (dayRead o p) (microRead o p) (read-since o p (i .in-years)) high (read-less o p) in
-        let w = reads-on (dayRead o p) (microRead o p) (read-since o p (i .in-years)) high q in
+        let w = reads-on (dayRead o p) (microRead o p) q in
         record { reading = q .0; reads = record { is-admitted = w .is-admitted; instant-is = w .instant-is ∙ there }; day-is = q .2; micro-is = q .3 }
       where
         -- the midnight behind 9999 has no reading

@@ -16,7 +16,6 @@ use Rattle.answer.specs.declared.Written.the-variants.{Wrote, Refused as NotWri
 use Rattle.answer.specs.Buffers.{writtenResults}
 use Rattle.answer.proofs.Orders.{number-some}
 use Rattle.months.specs.Months.{leapYear, monthLength, daysBefore}
-use Rattle.calendar.specs.Days.{monthOfDay}
 use Rattle.leap.specs.declared.Table.{Table}
 use Rattle.leap.specs.Leap.{withoutMonth, vouchedRight, oneApart, placeRight, accepted, lastBegun, offsetIn, beyond}
 use Rattle.leap.specs.Entries.{tableOf, Good}
@@ -35,7 +34,7 @@ use Rattle.stamp.specs.declared.InstantAnswer.{InstantAnswer}
 use Rattle.stamp.specs.declared.InstantAnswer.the-variants.{At, Refused as NoInstant}
 use Rattle.stamp.specs.declared.StampAnswer.{StampAnswer}
 use Rattle.stamp.specs.declared.StampAnswer.the-variants.{Stamped, Refused as NoStamp}
-use Rattle.stamp.specs.Scales.{scaleOf, offsetsOf, toInstant}
+use Rattle.stamp.specs.Scales.{scaleOf, toInstant}
 use Rattle.stamp.specs.Back.{stampAt}
 use Rattle.stamp.specs.Stamps.{instantOf, instantResults, stampOf, stampResults}
 use Rattle.stamp.specs.Marks.{beyondOn, markedInstant, markedStamp, stampOfMarked}
@@ -66,7 +65,7 @@ use Rattle.text.proofs.Answers.{same-without-month}
 use Rattle.text.proofs.Promise.{promised}
 use Rattle.julian.specs.declared.JulianAnswer.{JulianAnswer}
 use Rattle.julian.specs.declared.JulianAnswer.the-variants.{Dated, Refused as NoDate}
-use Rattle.julian.specs.Dates.{writeJulian, julianResults, dayRead, readJulian}
+use Rattle.julian.specs.Dates.{writeJulian, julianResults, readJulian}
 use Rattle.julian.specs.Marks.{markedPair, beyondRead}
 use Rattle.julian.proofs.Dates.{read-given}
 use Rattle.julian.proofs.Marks.{month-read}

@@ -626,7 +626,6 @@ pub fn day_on<'a>(
     let near = scale.near(count, months, offsets, m);
     let number = day as u64;
     let last = number + 1 == span.start + span.length as u64;
-    let seconds = labels::day_seconds(last, near.here, near.next);
     let this = DayStart {
         number,
         month: m as u64,
@@ -636,7 +635,7 @@ pub fn day_on<'a>(
     DaySpan {
         this,
         next,
-        seconds,
+        seconds: labels::day_seconds(last, near.here, near.next),
     }
 }
 

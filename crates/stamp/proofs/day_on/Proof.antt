@@ -41,7 +41,7 @@ module _ (c : tie.After-month-of-day) where
   end-is =
       omega (arith, ap (λ (x : Span). x .start) (c .month-of-day .ensures), ap (λ (x : Span). x .length) (c .month-of-day .ensures), days-next (m (c .before)))
 
-module _ (c : tie.After-day-seconds) where
+module _ (c : tie.After-day-after) where
   abbrev near : tie.After-near
   near = c .before .before .before .before .before
 
@@ -63,18 +63,16 @@ module _ (c : tie.After-day-seconds) where
   next-is : toZ w32 (ofZ w32 (near .near .result .next)) ≡ o a (m a + 1)
   next-is = toZ-ofZ next-fits ∙ near .near .ensures .1 ∙ ap (λ (k : ℕ). o a (k + 1)) (number-is month)
 
-  seconds-are : c .day-seconds .result ≡ daySeconds (o a) (d a)
-  seconds-are = c .day-seconds .ensures ∙ cc (here-is, next-is, end-is month)
+  next-told : c .day-after .result ≡ dayStart (o a) (d a + 1)
+  next-told =
+      let told : c .day-after .result ≡ dayAfter (dayStart (o a) (d a)) (eqb (d a + 1) (daysBefore (m a + 1))) (o a (m a + 1)) = c .day-after .ensures ∙ cc (here-is, next-is, end-is month, number-is month) in
+      told ∙ day-behind (o a) (d a)
 
-next-told : (c : tie.After-day-after) → let s = a (c .before .before .before) in c .day-after .result ≡ dayStart (o s) (d s + 1)
-next-told c =
-    let e = c .before .before .before in
-    let s = a e in
-    let told : c .day-after .result ≡ dayAfter (dayStart (o s) (d s)) (eqb (d s + 1) (daysBefore (m s + 1))) (o s (m s + 1)) = c .day-after .ensures ∙ cc (here-is e, next-is e, end-is (month e), number-is (month e)) in
-    told ∙ day-behind (o s) (d s)
+seconds-are : (c : tie.After-day-seconds) → let b = c .before .before .before in c .day-seconds .result ≡ daySeconds (o (a b)) (d (a b))
+seconds-are c = let b = c .before .before .before in c .day-seconds .ensures ∙ cc (here-is b, next-is b, end-is (month b))
 
 returns : tie.Need-returns
-returns c = let e = c .before .before .before in cc (here-is e, number-is (month e), seconds-are e, next-told c)
+returns c = let b = c .before .before .before in cc (here-is b, number-is (month b), seconds-are c, next-told b)
 
 pub day-on-spec : {M : Type 1} → statement M
 day-on-spec =
@@ -85,7 +83,7 @@ day-on-spec =
     (λ c. search needs)
     (λ c. search needs)
     (λ c. let k = c .before .before .before in record { fits = omega (arith, end-is k, days-next (m (k .before)), length-most (m (k .before)), in-month (d (k .before))) })
-    (λ c κs. search needs)
     (λ c. search needs)
+    (λ c κs. search needs)
     (λ c κs. search needs)
     returns)
