@@ -1,6 +1,6 @@
 -- `stamp::day_on` meets its contract: the calendar read once, and the table walked once.
 -- Assumes nothing.
-use mathlib.Core.Path.{_≡_, ap, _∙_}
+use mathlib.Core.Path.{_≡_, ap, ap₂, _∙_}
 use Prim.Native.Nat.{ℕ, _+_}
 use native.Mathlib.Omega.{arith}
 use borrow.Author.Needs.{needs}
@@ -15,7 +15,7 @@ use Rattle.calendar.specs.Days.{monthOfDay}
 use Rattle.calendar.proofs.Days.{in-month}
 use Rattle.leap.specs.Leap.{tabled}
 use Rattle.labels.specs.Labels.{Offsets}
-use Rattle.labels.specs.Lengths.{daySeconds}
+use Rattle.labels.specs.Lengths.{secondsIn, daySeconds}
 use Rattle.stamp.specs.Days.{dayStart}
 use Rattle.stamp.specs.Parts.{dayAfter}
 use Rattle.stamp.specs.Scales.{offsetsOf}
@@ -69,7 +69,11 @@ module _ (c : tie.After-day-after) where
       told ∙ day-behind (o a) (d a)
 
 seconds-are : (c : tie.After-day-seconds) → let b = c .before .before .before in c .day-seconds .result ≡ daySeconds (o (a b)) (d (a b))
-seconds-are c = let b = c .before .before .before in c .day-seconds .ensures ∙ cc (here-is b, next-is b, end-is (month b))
+seconds-are c =
+    let b = c .before .before .before in
+    c .day-seconds .ensures
+    ∙ ap (λ (n : ℕ). secondsIn (eqb (d (a b) + 1) n) (toZ w32 (ofZ w32 (near b .near .result .here))) (toZ w32 (ofZ w32 (near b .near .result .next)))) (end-is (month b))
+    ∙ ap₂ (secondsIn (eqb (d (a b) + 1) (daysBefore (m (a b) + 1)))) (here-is b) (next-is b)
 
 returns : tie.Need-returns
 returns c = let b = c .before .before .before in cc (here-is b, number-is (month b), seconds-are c, next-told b)
