@@ -1,9 +1,9 @@
 -- `julian::pair_of` meets its contract: the code has 0.5 by its bit pattern.
 -- Assumes nothing.
-use mathlib.Core.Path.{_≡_, refl, ap₂}
+use mathlib.Core.Path.{_≡_, refl}
 use mathlib.Core.Bool.{false}
 use lib.IntN.{negsuc}
-use lib.Ieee.{Float, fin, binary64, ofBits, add}
+use lib.Ieee.{fin, binary64, ofBits}
 use borrow.Author.Needs.{needs}
 use Rattle.julian.specs.Midnight.{midnightOf}
 use Rattle.julian.proofs.pair_of.Statement.{statement}
@@ -13,12 +13,8 @@ half-pattern : ofBits binary64 0x3fe0_0000_0000_0000 ≡ fin false 1 (negsuc 0)
 unfolding ofBits
 half-pattern = refl
 
--- by parts, since a search takes long to fail where the code is wrong
-returns : tie.Need-returns
-unfolding midnightOf
-returns c = ap₂ (λ (m f : Float). record { midnight = m; fraction = f }) (ap₂ (add binary64) (c .before .before .nearest-u64-to-f64 .ensures) half-pattern) (c .fraction-of .ensures)
-
 pub pair-of-spec : {M : Type 1} → statement M
+unfolding midnightOf
 pair-of-spec =
     tie.close
-    (tie.spec (λ c. search needs) (λ c. search needs) (λ c κs. search needs) (λ c. search needs) (λ c. search needs) (λ c κs. search needs) returns)
+    (tie.spec (λ c. search needs) (λ c. search needs) (λ c κs. search needs) (λ c. search needs) (λ c. search needs) (λ c κs. search needs) (λ c. cc half-pattern))
