@@ -8,8 +8,9 @@ static mundreff_label labels[INPUTS], label, next;
 static size_t place, length, block_size;
 static int64_t instant;
 static char text[MUNDREFF_TEXT_ROOM];
-static uint8_t bytes[MUNDREFF_KERNEL_ROOM], block[MUNDREFF_BLOCK_ROOM], kernel[8192];
-static size_t kernel_size;
+static const char comment[] = "* TAI-UTC of Bulletin C\n";
+static uint8_t bytes[MUNDREFF_CARDS_ROOM], block[MUNDREFF_BLOCK_ROOM], kernel[8192], cards[sizeof comment - 1 + MUNDREFF_CARDS_ROOM];
+static size_t kernel_size, cards_size;
 static uint64_t kernel_place;
 static double midnight, fraction;
 static uint32_t marks;
@@ -26,6 +27,8 @@ static uint32_t read_block(int i) { (void)i; return mundreff_read_block(block, b
 static uint32_t write_block(int i) { (void)i; return mundreff_write_block(&table, bytes, sizeof bytes, &length); }
 static uint32_t read_kernel(int i) { (void)i; return mundreff_read_kernel(kernel, kernel_size, &kernel_place, &read_table); }
 static uint32_t write_kernel(int i) { (void)i; return mundreff_write_kernel(&table, bytes, sizeof bytes, &length); }
+static uint32_t read_cards(int i) { (void)i; return mundreff_read_cards(cards, cards_size, &place, &read_table); }
+static uint32_t write_cards(int i) { (void)i; return mundreff_write_cards(&table, bytes, sizeof bytes, &length); }
 
 static int instant_right(int i) { return instant == instants[i]; }
 static int stamp_right(int i) { return !memcmp(&stamp, &stamps[i], sizeof stamp); }
@@ -42,8 +45,9 @@ static int next_right(int i)
 static int table_right(int i) { (void)i; return !memcmp(&read_table, &table, sizeof table); }
 static int block_right(int i) { (void)i; return length == 29 && !memcmp(bytes, block, 29); }
 
-/* the kernel written has the length of Bulletin C's and reads as the table */
+/* the kernel written has the length of Bulletin C's and reads as the table; so do the cards */
 static int kernel_right(int i) { return length == 1032 && !mundreff_read_kernel(bytes, length, &kernel_place, &read_table) && table_right(i); }
+static int cards_right(int i) { return length == 28 * 81 && !mundreff_read_cards(bytes, length, &place, &read_table) && table_right(i); }
 
 /* a call's row, with no marks since no month is given, and where it takes or gives many bytes that of a byte */
 #define BYTES_ROW(name, call, right, size)                                    \
@@ -70,6 +74,18 @@ ROW("block to table", read_block, table_right)
 ROW("table to block", write_block, block_right)
 BYTES_ROW("kernel to table", read_kernel, table_right, kernel_size)
 BYTES_ROW("table to kernel", write_kernel, kernel_right, length)
+BYTES_ROW("cards to table", read_cards, table_right, cards_size)
+BYTES_ROW("table to cards", write_cards, cards_right, length)
+
+/* Bulletin C's cards, as they are written, behind a comment */
+static uint32_t make_cards(void)
+{
+    const size_t front = sizeof comment - 1;
+    memcpy(cards, comment, front);
+    uint32_t no = mundreff_write_cards(&table, cards + front, sizeof cards - front, &length);
+    cards_size = front + length;
+    return no;
+}
 
 int main(void)
 {
@@ -82,7 +98,7 @@ int main(void)
         stamps[i] = (mundreff_stamp){MUNDREFF_UTC, f[0], f[1], f[2], f[3], f[4], f[5], f[6]};
     }
     mundreff_bulletin_c(&table);
-    if (mundreff_write_block(&table, block, sizeof block, &block_size))
+    if (mundreff_write_block(&table, block, sizeof block, &block_size) || make_cards())
         return 1;
     FILE *file = fopen("examples/leapseconds.tls", "rb");
     if (!file)
@@ -100,5 +116,7 @@ int main(void)
     row_write_block();
     row_read_kernel();
     row_write_kernel();
+    row_read_cards();
+    row_write_cards();
     return 0;
 }

@@ -78,6 +78,66 @@ static void kernels(void)
     expect("write_kernel of it", mundreff_write_kernel(&read, kernel, sizeof kernel, &length) == MUNDREFF_TABLE && length == 0);
 }
 
+/* 10 s from January and 11 s from July 1972 on, as they are written */
+static const char small_cards[] =
+    "            10.0                                      32.184 72001000000.000  TP\n"
+    "            11.0                                      32.184 72183000000.000  TP\n";
+enum { CARD = 81, DATE = 61 };
+
+static void cards(void)
+{
+    const size_t size = 2 * CARD;
+    uint8_t cards[200], before[200];
+    const uint8_t *small = (const uint8_t *)small_cards;
+    size_t length = 9, place = 9;
+    mundreff_table read;
+    USED(read);
+    expect("read_cards", sizeof small_cards == size + 1 && mundreff_read_cards(small, size, &place, &read) == MUNDREFF_OK && place == 0 && read.count == 2 && read.months[1] == 6 && read.offsets[1] == 11 && read.months[2] == 0 && read.offsets[63] == 0 && read.vouched == 0);
+    USED(cards);
+    USED(before);
+    expect("write_cards refused", mundreff_write_cards(&read, cards, size - 1, &length) == MUNDREFF_ROOM && length == 0 && SAME(cards, before));
+    expect("write_cards", mundreff_write_cards(&read, cards, sizeof cards, &length) == MUNDREFF_OK && length == size && memcmp(cards, small, size) == 0 && memcmp(cards + size, before, sizeof cards - size) == 0);
+    expect("read_cards refused", mundreff_read_cards(small, 2 * CARD - 2, &place, &read) == MUNDREFF_CARD && place == CARD && SAME(read, no_table));
+    cards[12] = '2';
+    expect("cards of no table", mundreff_read_cards(cards, length, &place, &read) == MUNDREFF_TABLE && place == 0 && SAME(read, no_table));
+    expect("write_cards of it", mundreff_write_cards(&read, cards, sizeof cards, &length) == MUNDREFF_TABLE && length == 0);
+}
+
+/* a date at the end of the card's years, and one behind it, which comes before the room */
+static void late_cards(void)
+{
+    uint8_t cards[2 * CARD];
+    size_t length = 9, place = 9;
+    mundreff_table late, read;
+    memset(&late, 0, sizeof late);
+    late.count = 2;
+    late.months[1] = MUNDREFF_VOUCHED(2049, 12) - 1;
+    late.offsets[0] = 10;
+    late.offsets[1] = 9;
+    expect("the last card", mundreff_write_cards(&late, cards, sizeof cards, &length) == MUNDREFF_OK && length == sizeof cards && memcmp(cards + CARD + DATE, "49335000000.000", 15) == 0);
+    USED(read);
+    expect("and read again", mundreff_read_cards(cards, length, &place, &read) == MUNDREFF_OK && SAME(read, late));
+    late.months[1]++;
+    expect("an entry of 2050", mundreff_write_cards(&late, NULL, 0, &length) == MUNDREFF_RANGE && length == 0);
+}
+
+/* Lines that are passed over, newest first, `1` in column 1, a rate, a last line without its end; and two cards of one date. */
+static void other_cards(void)
+{
+    static const char newest_first[] =
+        "* TAI-UTC\n\n"
+        "1            +11           -.25         0.0010       32.1840 72183000000.000 xTP\n"
+        "C\n   \n"
+        "            10.0                                      32.184 72001000000.000  TP";
+    mundreff_table read;
+    size_t place = 9;
+    uint8_t twice[3 * CARD];
+    expect("newest first", mundreff_read_cards((const uint8_t *)newest_first, sizeof newest_first - 1, &place, &read) == MUNDREFF_OK && place == 0 && read.count == 2 && read.offsets[0] == 10 && read.months[1] == 6 && read.offsets[1] == 11);
+    memcpy(twice, small_cards, 2 * CARD);
+    memcpy(twice + 2 * CARD, small_cards + CARD, CARD);
+    expect("a date that does not rise", mundreff_read_cards(twice, sizeof twice, &place, &read) == MUNDREFF_CARD && place == 2 * CARD && SAME(read, no_table));
+}
+
 static uint8_t megabyte[1 << 20];
 
 /* Bad files: every cut of a kernel, every byte of it changed, a megabyte. Each has a number, a place and, but for a kernel, no table. */
@@ -105,6 +165,33 @@ static void bad_kernels(void)
     expect("a megabyte", mundreff_read_kernel(megabyte, sizeof megabyte, &place, &read) == MUNDREFF_KERNEL && place == 65536 && SAME(read, no_table));
     megabyte[31] = 'x';
     expect("a megabyte with a fault", mundreff_read_kernel(megabyte, sizeof megabyte, &place, &read) == MUNDREFF_KERNEL && place == 31 && SAME(read, no_table));
+}
+
+/* The same of cards, but a megabyte is answered: behind the cards it is a line of blanks, or no card. */
+static void bad_cards(void)
+{
+    const size_t size = 2 * CARD;
+    uint8_t cards[2 * CARD];
+    size_t place = 9;
+    mundreff_table read;
+    int cuts = 1, changes = 1;
+    for (size_t cut = 0; cut < size; cut++) {
+        uint32_t no = mundreff_read_cards((const uint8_t *)small_cards, cut, &place, &read);
+        cuts &= no == MUNDREFF_OK ? place == 0 && read.count == 1 + cut / (size - 1) : SAME(read, no_table) && (no == MUNDREFF_TABLE ? place == 0 && cut <= 12 : no == MUNDREFF_CARD && place == (cut > CARD ? CARD : 0));
+    }
+    expect("cards that are cut off", cuts);
+    for (size_t k = 0; k < 256 * size; k++) {
+        memcpy(cards, small_cards, size);
+        cards[k / 256] = (uint8_t)(k % 256);
+        uint32_t no = mundreff_read_cards(cards, size, &place, &read);
+        changes &= no == MUNDREFF_OK ? place == 0 && read.count > 0 : SAME(read, no_table) && (no == MUNDREFF_TABLE ? place == 0 : no == MUNDREFF_CARD && place < size);
+    }
+    expect("cards with a byte changed", changes);
+    memset(megabyte, ' ', sizeof megabyte);
+    memcpy(megabyte, small_cards, size);
+    expect("a megabyte of them", mundreff_read_cards(megabyte, sizeof megabyte, &place, &read) == MUNDREFF_OK && place == 0 && read.count == 2);
+    megabyte[sizeof megabyte - 1] = 'x';
+    expect("and with a fault", mundreff_read_cards(megabyte, sizeof megabyte, &place, &read) == MUNDREFF_CARD && place == size && SAME(read, no_table));
 }
 
 /* offsets below zero: 12 steps down from 10 */
@@ -296,7 +383,7 @@ static int others_refuse(const mundreff_table *t)
 {
     const mundreff_label eve = {2016, 12, 31, 23, 59, 59};
     mundreff_label label;
-    uint8_t out[MUNDREFF_KERNEL_ROOM], before[MUNDREFF_KERNEL_ROOM];
+    uint8_t out[MUNDREFF_CARDS_ROOM], before[MUNDREFF_CARDS_ROOM];
     size_t length = 9;
     USED(label);
     USED(out);
@@ -305,6 +392,7 @@ static int others_refuse(const mundreff_table *t)
     all &= mundreff_tick(t, &eve, &label, marked()) == MUNDREFF_TABLE && SAME(label, no_label) && marks == 0;
     all &= mundreff_write_block(t, out, sizeof out, &length) == MUNDREFF_TABLE && length == 0 && SAME(out, before);
     all &= mundreff_write_kernel(t, out, sizeof out, &length) == MUNDREFF_TABLE && length == 0 && SAME(out, before);
+    all &= mundreff_write_cards(t, out, sizeof out, &length) == MUNDREFF_TABLE && length == 0 && SAME(out, before);
     return all;
 }
 
@@ -356,7 +444,7 @@ static void marks_given(void)
 /* the writers of tables drop the month */
 static void months_dropped(void)
 {
-    uint8_t with[MUNDREFF_KERNEL_ROOM], without[MUNDREFF_KERNEL_ROOM];
+    uint8_t with[MUNDREFF_CARDS_ROOM], without[MUNDREFF_CARDS_ROOM];
     size_t length = 9, same = 9, place = 9;
     uint64_t at = 9;
     mundreff_table given = table, read;
@@ -369,6 +457,9 @@ static void months_dropped(void)
     expect("a kernel has no month", mundreff_write_kernel(&given, with, sizeof with, &length) == MUNDREFF_OK && mundreff_write_kernel(&table, without, sizeof without, &same) == MUNDREFF_OK && length == same && SAME(with, without));
     USED(read);
     expect("nor has its table", mundreff_read_kernel(with, length, &at, &read) == MUNDREFF_OK && SAME(read, table) && read.vouched == 0);
+    expect("cards have no month", mundreff_write_cards(&given, with, sizeof with, &length) == MUNDREFF_OK && mundreff_write_cards(&table, without, sizeof without, &same) == MUNDREFF_OK && length == same && length == 28 * CARD && SAME(with, without));
+    USED(read);
+    expect("nor the table of them", mundreff_read_cards(with, length, &place, &read) == MUNDREFF_OK && SAME(read, table) && read.vouched == 0);
 }
 
 static void no_bytes(void)
@@ -380,6 +471,8 @@ static void no_bytes(void)
     int64_t instant = 9;
     expect("no kernel", mundreff_read_kernel(NULL, 0, &at, &read) == MUNDREFF_KERNEL && at == 0 && SAME(read, no_table));
     expect("no room for a kernel", mundreff_write_kernel(&table, NULL, 0, &length) == MUNDREFF_ROOM && length == 0);
+    expect("no cards", mundreff_read_cards(NULL, 0, &place, &read) == MUNDREFF_TABLE && place == 0 && SAME(read, no_table));
+    expect("no room for cards", mundreff_write_cards(&table, NULL, 0, &length) == MUNDREFF_ROOM && length == 0);
     expect("no block", mundreff_read_block(NULL, 0, &place, &read) == MUNDREFF_CUT && place == 0 && SAME(read, no_table));
     expect("no room for a block", mundreff_write_block(&table, NULL, 0, &length) == MUNDREFF_ROOM && length == 0);
     expect("no text", mundreff_read_text(&table, MUNDREFF_UTC, NULL, 0, &instant, &stamp, marked()) == MUNDREFF_SHAPE && instant == 0 && SAME(stamp, no_stamp) && marks == 0);
@@ -388,11 +481,11 @@ static void no_bytes(void)
 }
 
 /* 52 gaps of 64 months, whose numbers take two bytes, and 11 of 8,192, whose numbers take three: the longest block there is. Offsets that go
-   down, to -53, make the longest kernel. */
+   down, to -53, make the longest kernel; 64 entries before 2050 are the most cards. */
 static void lengths(void)
 {
     mundreff_table longest;
-    uint8_t block[MUNDREFF_BLOCK_ROOM], kernel[MUNDREFF_KERNEL_ROOM];
+    uint8_t block[MUNDREFF_BLOCK_ROOM], kernel[MUNDREFF_KERNEL_ROOM], cards[MUNDREFF_CARDS_ROOM];
     char text[MUNDREFF_TEXT_ROOM], string[MUNDREFF_STRING_ROOM];
     size_t length = 9;
     memset(&longest, 0, sizeof longest);
@@ -408,6 +501,10 @@ static void lengths(void)
         longest.offsets[k] = 10 - k;
     expect("the longest kernel", mundreff_write_kernel(&longest, kernel, sizeof kernel, &length) == MUNDREFF_OK && length == MUNDREFF_KERNEL_ROOM);
     expect("it is no shorter either", mundreff_write_kernel(&longest, kernel, sizeof kernel - 1, &length) == MUNDREFF_ROOM);
+    for (int k = 1; k < 64; k++)
+        longest.months[k] = longest.months[k - 1] + 12;
+    expect("the most cards", mundreff_write_cards(&longest, cards, sizeof cards, &length) == MUNDREFF_OK && length == MUNDREFF_CARDS_ROOM);
+    expect("they are no fewer bytes", mundreff_write_cards(&longest, cards, sizeof cards - 1, &length) == MUNDREFF_ROOM);
     expect("the longest text", mundreff_write_text(&table, added, MUNDREFF_MONTH_NAME, MUNDREFF_UTC, 6, text, sizeof text, &length, marked()) == MUNDREFF_OK && length == MUNDREFF_TEXT_ROOM && memcmp(text, "2016 DEC 31 23:59:60.000000", 27) == 0);
     expect("the longest string", mundreff_write_string(&table, added, MUNDREFF_MONTH_NAME, MUNDREFF_UTC, 6, string, sizeof string, &length, marked()) == MUNDREFF_OK && length == MUNDREFF_TEXT_ROOM && strcmp(string, "2016 DEC 31 23:59:60.000000") == 0);
 }
@@ -417,8 +514,8 @@ static int is_named(uint32_t number, const char *name) { return strcmp(mundreff_
 static void names(void)
 {
     expect("names of the refusals", is_named(MUNDREFF_ROOM, "ROOM") && is_named(MUNDREFF_SHAPE, "SHAPE") && is_named(MUNDREFF_YEAR, "YEAR") && is_named(MUNDREFF_DATE, "DATE") && is_named(MUNDREFF_CLOCK, "CLOCK") && is_named(MUNDREFF_NOSECOND, "NOSECOND") && is_named(MUNDREFF_RANGE, "RANGE"));
-    expect("and of the others", is_named(MUNDREFF_ASK, "ASK") && is_named(MUNDREFF_CUT, "CUT") && is_named(MUNDREFF_GROUPS, "GROUPS") && is_named(MUNDREFF_TABLE, "TABLE") && is_named(MUNDREFF_TAIL, "TAIL") && is_named(MUNDREFF_NUMBER, "NUMBER") && is_named(MUNDREFF_KERNEL, "KERNEL"));
-    expect("no refusal, and no number", is_named(MUNDREFF_OK, "OK") && is_named(15, "UNKNOWN") && is_named(0xffffffff, "UNKNOWN"));
+    expect("and of the others", is_named(MUNDREFF_ASK, "ASK") && is_named(MUNDREFF_CUT, "CUT") && is_named(MUNDREFF_GROUPS, "GROUPS") && is_named(MUNDREFF_TABLE, "TABLE") && is_named(MUNDREFF_TAIL, "TAIL") && is_named(MUNDREFF_NUMBER, "NUMBER") && is_named(MUNDREFF_KERNEL, "KERNEL") && is_named(MUNDREFF_CARD, "CARD"));
+    expect("no refusal, and no number", is_named(MUNDREFF_OK, "OK") && is_named(16, "UNKNOWN") && is_named(0xffffffff, "UNKNOWN"));
 }
 
 int main(void)
@@ -427,6 +524,10 @@ int main(void)
     tables();
     kernels();
     bad_kernels();
+    cards();
+    late_cards();
+    other_cards();
+    bad_cards();
     below_zero();
     stamps();
     texts();

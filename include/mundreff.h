@@ -12,8 +12,8 @@
 
    Pointers. A buffer of no bytes may be NULL (with size or room 0); every other pointer must be valid, and none is tested. An output, marks
    too, lies apart from the other outputs, from the table and from every input, whole or in part, with one exception: the two labels of
-   mundreff_tick may be one. So a block or a kernel that lies in a mundreff_table is not read into that table, and a table's own bytes are not
-   written over while it is read. Inputs may overlap. What overlaps otherwise is not answered for. */
+   mundreff_tick may be one. So a block, a kernel or cards that lie in a mundreff_table are not read into that table, and a table's own bytes are
+   not written over while it is read. Inputs may overlap. What overlaps otherwise is not answered for. */
 #ifndef MUNDREFF_H
 #define MUNDREFF_H
 
@@ -22,7 +22,7 @@
 #include <string.h>
 
 /* tools/build-shared and tools/install take it from here. */
-#define MUNDREFF_VERSION "0.3"
+#define MUNDREFF_VERSION "0.4"
 
 /* Before each call that can be refused: the compiler warns where its number is not looked at. */
 #if (defined(__cplusplus) && __cplusplus >= 201703L) || (defined(__STDC_VERSION__) && __STDC_VERSION__ >= 202311L)
@@ -46,14 +46,15 @@ enum {
     MUNDREFF_DATE = 4,     /* month, day or day of year is zero or too large */
     MUNDREFF_CLOCK = 5,    /* hour over 23, minute over 59, second over 60 (59 on a uniform scale), microsecond over 999,999 */
     MUNDREFF_NOSECOND = 6, /* a UTC second that the table does not admit */
-    MUNDREFF_RANGE = 7,    /* the instant or Julian day has no label on this scale; a tick after the end of 9999 */
+    MUNDREFF_RANGE = 7,    /* the instant or Julian day has no label on this scale; a tick after the end of 9999; a card for an entry after 2049 */
     MUNDREFF_ASK = 8,      /* unknown scale, picture or digit number */
     MUNDREFF_CUT = 9,      /* the block ends before a number of it does */
     MUNDREFF_GROUPS = 10,  /* a number of the block is too long, or not in its shortest form */
     MUNDREFF_TABLE = 11,   /* the table, given or read, is not as described (its vouched month too), or the block's count, gap or month is out of range */
     MUNDREFF_TAIL = 12,    /* a byte after the block's last entry */
     MUNDREFF_NUMBER = 13,  /* the midnight is not a whole number and a half, or the fraction is not at least 0 and below 1 */
-    MUNDREFF_KERNEL = 14   /* the file is no leap-seconds kernel, or is longer than 65,536 bytes */
+    MUNDREFF_KERNEL = 14,  /* the file is no leap-seconds kernel, or is longer than 65,536 bytes */
+    MUNDREFF_CARD = 15     /* a line is no card, or its date is out of order */
 };
 
 /* The scales. All but UTC are uniform: TDT (now TT) is TAI + 32.184 s, GPS is TAI - 19 s, also before 1980. Each scale has the labels from
@@ -69,16 +70,17 @@ enum {
 };
 
 /* Bytes that are always enough: the longest text has 27, in picture 2 with six digits, and 28 with its final zero as a string, the longest
-   block of a table 138 and the longest kernel 2,362. Add one to a kernel's for a final zero of your own. */
-enum { MUNDREFF_TEXT_ROOM = 27, MUNDREFF_STRING_ROOM = 28, MUNDREFF_BLOCK_ROOM = 138, MUNDREFF_KERNEL_ROOM = 2362 };
+   block of a table 138, the longest kernel 2,362 and the most cards, 64 of 81 bytes, 5,184. Add one to a kernel's or to that of cards for a
+   final zero of your own. */
+enum { MUNDREFF_TEXT_ROOM = 27, MUNDREFF_STRING_ROOM = 28, MUNDREFF_BLOCK_ROOM = 138, MUNDREFF_KERNEL_ROOM = 2362, MUNDREFF_CARDS_ROOM = 5184 };
 
 /* 1 to 64 entries, each the month (January 1972 is 0) from whose first day TAI-UTC is that offset in seconds. The first is month 0 with 10,
    months rise and end at 96,335 (December 9999) at the latest, offsets go up or down by 1, unused places are zero. Every call checks it.
    The last offset holds to the end of 9999, announced or not. A month's number is 12 * (year - 1972) + month - 1.
    `vouched` says how long the table is good for: the last month that it is vouched for, plus one, or 0 where none is given. Which month, is for
    whoever hands out the table to say; MUNDREFF_VOUCHED, below, makes the number. A month that is given lies from the last entry's to 96,335, else
-   TABLE. Tables read from blocks and kernels and Bulletin C's own have none given and mark nothing: set `table.vouched` yourself, each time that
-   you load one.
+   TABLE. Tables read from blocks, kernels and cards and Bulletin C's own have none given and mark nothing: set `table.vouched` yourself, each
+   time that you load one.
    Older programs: the eight calls with `marks` need that one argument more, and what fills in a table field by field sets `vouched` as well, to 0
    for none. Rebuild every file: an object file compiled with the older header still links, and then writes outside its table and through a
    stray pointer. */
@@ -160,6 +162,28 @@ MUNDREFF_CHECKED uint32_t mundreff_read_kernel(const uint8_t *file, size_t size,
    Refusals: TABLE, ROOM. */
 MUNDREFF_CHECKED uint32_t mundreff_write_kernel(const mundreff_table *table, uint8_t *out, size_t room, size_t *length);
 
+/* Reads a file of 80-column TP cards into a table. A line ends with a line feed or with the file; one that is empty or all blanks, or begins
+   with *, C or c, is passed over. Every other line is a card of exactly 80 bytes. Its columns, counted from 1:
+       1       blank or 1
+       2-16    TAI-UTC in seconds, whole by value: 23, 23. or +23.000
+       17-31   UT1-UTC, and 32-46 its rate: each blank or a number, which is not used
+       47-61   TDT-TAI, 32.184 by value
+       62-76   the date from which it holds, yyddd000000.000: the first day of a month from 1972 on, by its day of the year; yy is 19yy from 50
+               and 20yy up to 49
+       79-80   TP; 77 and 78 are not looked at
+   A number is a plain decimal: a sign or none, digits with one point or none, and blanks around. From card to card dates all rise or all fall.
+   Hand in the whole file, of any size: cards have no end mark, so a part may be a shorter table, and is read as one. A carriage return is a
+   byte like any other, so take them out of a file first.
+   With CARD `place` is that of the first byte of the first line that is no card or whose date is out of order. With TABLE, also for over 64
+   cards and for none, and on success it is 0.
+   Refusals: CARD, TABLE. */
+MUNDREFF_CHECKED uint32_t mundreff_read_cards(const uint8_t *file, size_t size, size_t *place, mundreff_table *table);
+
+/* Writes a table as cards, oldest first, 81 bytes each with its line feed, with no final zero, and gives their length: Bulletin C has 28 cards
+   and 2,268 bytes. A card cannot say a year after 2049: an entry there is RANGE. A vouched month is judged and not written, as above.
+   Refusals: TABLE, RANGE, ROOM. */
+MUNDREFF_CHECKED uint32_t mundreff_write_cards(const mundreff_table *table, uint8_t *out, size_t room, size_t *length);
+
 /* The instant of a stamp.
    Refusals: ASK, TABLE, YEAR, DATE, CLOCK, NOSECOND. */
 MUNDREFF_CHECKED uint32_t mundreff_instant_of(const mundreff_table *table, const mundreff_stamp *stamp, int64_t *instant, uint32_t *marks);
@@ -234,7 +258,7 @@ MUNDREFF_CHECKED static inline uint32_t mundreff_tick(const mundreff_table *tabl
 /* The name of a refusal, without MUNDREFF_; `UNKNOWN` for a number that is none. */
 static inline const char *mundreff_refusal_name(uint32_t number)
 {
-    static const char *const names[] = {"OK", "ROOM", "SHAPE", "YEAR", "DATE", "CLOCK", "NOSECOND", "RANGE", "ASK", "CUT", "GROUPS", "TABLE", "TAIL", "NUMBER", "KERNEL"};
+    static const char *const names[] = {"OK", "ROOM", "SHAPE", "YEAR", "DATE", "CLOCK", "NOSECOND", "RANGE", "ASK", "CUT", "GROUPS", "TABLE", "TAIL", "NUMBER", "KERNEL", "CARD"};
     return number < sizeof names / sizeof *names ? names[number] : "UNKNOWN";
 }
 

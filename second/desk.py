@@ -1,7 +1,7 @@
 """The program `desk`, written from docs/DESK.md: each line has its answer.
 
-It stands on the calls of second.py, of which it reads and writes stamps, blocks
-and kernels; here are the requests, the words of the answers and the refusals.
+It stands on the calls of second.py, of which it reads and writes stamps, blocks,
+kernels and cards; here are the requests, the words of the answers and the refusals.
 Lines and answers are bytes.  second.py runs it.
 """
 
@@ -9,11 +9,12 @@ import re
 from typing import NamedTuple
 
 import second
-from second import (ASK, CLOCK, CUT, DATE, GROUPS, KERNEL, NOSECOND, NUMBER, RANGE, ROOM, SHAPE, TABLE, TAIL, YEAR,
-                    FIRST_YEAR, MOST_KERNEL_BYTES, SECOND, UTC, Refused, Stamp)
+from second import (ASK, CARD, CLOCK, CUT, DATE, GROUPS, KERNEL, NOSECOND, NUMBER, RANGE, ROOM, SHAPE, TABLE, TAIL, YEAR,
+                    FIRST_YEAR, SECOND, UTC, Refused, Stamp)
 
 LONGEST_LINE = 1_024
 SHOWN_OF_A_LONG_LINE = 40
+MOST_FILE_BYTES = 65_536
 MOST_NUMBERS_SHOWN = 20
 
 CLOCKS = (b'UTC', b'TAI', b'TDT', b'GPS')  # by the number of the scale
@@ -58,19 +59,22 @@ REFUSALS = {
                   b'Give a midnight that ends in .5 and a fraction below 1.'),
     KERNEL: Words(b'KERNEL', b'The file is no leap-seconds kernel or is longer than 65536 bytes.',
                   b'Look at the byte that is named; or ask for the file again.'),
+    CARD: Words(b'CARD', b'A line of the file is no TP card or its date is out of order.',
+                b'Look at the line that begins at the byte that is named; or ask for the file again.'),
 }
 
 LONG_LINE = b'The line has over 1024 bytes.'
 NO_SECONDS = b'A number of seconds looks like 90.5 or -3 with up to 12 digits and six behind the point.'
 NO_NAME = b'A name has no comma and no quote in it.'
 NO_MONTH = b'A month looks like 2026-12 and is not before 1972-01.'
-NO_REFUSAL = b'A refusal has a number from 1 to 14.'
+NO_REFUSAL = b'A refusal has a number from 1 to 15.'
 NO_HEX = b'A block is written as pairs of hex digits.'
 NO_FILE = b'The file cannot be read.'
+LONG_FILE = b'The file is longer than 65536 bytes.'
 
 
 class NoAnswer(Exception):
-    """A line's refusal: what was given (None is the line), a sentence of its own, the place in a block or kernel."""
+    """A line's refusal: what was given (None is the line), a sentence of its own, the place in a block or a file."""
 
     def __init__(self, number, given=None, sentence=None, place=None):
         super().__init__(number, given, sentence, place)
@@ -81,7 +85,7 @@ class NoAnswer(Exception):
 
 
 class NotLoaded(NoAnswer):
-    """The refusal of a block or of a kernel: behind it no table is in force."""
+    """The refusal of a block or of a file: behind it no table is in force."""
 
 
 NO_TABLE = second.Table(0, (), ())  # it has no entries, and every call that needs a table refuses it
@@ -275,6 +279,7 @@ add 90.5 to UTC 2016-12-31T23:58:30
 pass AURORA-3 from UTC 2016-12-31T23:58:30 to UTC 2017-01-01T00:01:30
 table
 table kernel FILE
+table cards FILE
 table block HEX
 vouched 2026-12
 why 6
@@ -285,29 +290,38 @@ pictures: 1987-04-12T16:31:12 1987-102T16:31:12 1986 APR 12 16:31:09 and up to s
 
 # Requests for another table
 
+def table_read(given, read, part):
+    """The table of what was given, whose bytes the reader takes."""
+    try:
+        return read(part)
+    except Refused as refused:
+        raise NotLoaded(refused.number, given, place=refused.place) from None
+
+
 def table_of_block(_, rest):
     if not second.HEX.fullmatch(rest):
         raise NotLoaded(ASK, rest, NO_HEX)
-    try:
-        return second.read_block(bytes.fromhex(rest.decode()))
-    except Refused as refused:
-        raise NotLoaded(refused.number, rest, place=refused.place) from None
+    return table_read(rest, second.read_block, bytes.fromhex(rest.decode()))
 
 
-def front_of_file(name):
-    """As much as shows whether it is too long."""
+def front_of_file(name, number):
+    """As much as shows whether it is too long; the number is that of a file that cannot be read."""
     try:
         with open(name, 'rb') as file:
-            return file.read(MOST_KERNEL_BYTES + 1)
+            return file.read(MOST_FILE_BYTES + 1)
     except (OSError, ValueError):  # ValueError: a name with a NUL
-        raise NotLoaded(KERNEL, name, NO_FILE) from None
+        raise NotLoaded(number, name, NO_FILE) from None
 
 
 def table_of_kernel(_, rest):
-    try:
-        return second.read_kernel(front_of_file(rest))
-    except Refused as refused:
-        raise NotLoaded(refused.number, rest, place=refused.place) from None
+    return table_read(rest, second.read_kernel, front_of_file(rest, KERNEL))
+
+
+def table_of_cards(_, rest):
+    file = front_of_file(rest, CARD)
+    if len(file) > MOST_FILE_BYTES:
+        raise NotLoaded(CARD, rest, LONG_FILE)
+    return table_read(rest, second.read_cards, file)
 
 
 def table_vouched(table, rest):
@@ -331,6 +345,7 @@ ANSWERS = {
 TABLES = {
     b'table block ': table_of_block,
     b'table kernel ': table_of_kernel,
+    b'table cards ': table_of_cards,
     b'vouched ': table_vouched,
 }
 

@@ -12,8 +12,9 @@ import shutil
 
 import desk
 import second
-from generate import (BEGIN_DATA, BULLETIN, DECIMALS, N, OURS, PICTURES, T, WRONG_DECIMALS, Dice, damaged_once, edges_of,
-                      published_kernel, random_block, random_instant, random_table, random_text, random_vouched_number)
+from generate import (BEGIN_DATA, BULLETIN, COMMENTS, DECIMALS, FIRST_CARD, N, OURS, PICTURES, SECOND_CARD, SOURCE_CARDS, T, THIRD_CARD,
+                      WRONG_DECIMALS, Dice, card_of, cards_file, damaged_once, edges_of, published_kernel, random_block, random_instant,
+                      random_table, random_text, random_vouched_number)
 from second import GPS, LAST_MONTH, SECOND, TAI, TDT, UTC, Refused
 
 CLOCKS = [name.decode() for name in desk.CLOCKS]
@@ -42,7 +43,7 @@ def to_size(begin, end, size, filling='x'):
 
 
 # ---------------------------------------------------------------------------
-# Files that are laid beside the stored kernel for random lines
+# Files that are laid beside the stored ones for random lines
 
 KERNEL_FILES = {
     'published.tls': published_kernel(),
@@ -50,40 +51,67 @@ KERNEL_FILES = {
     'no table.tls': second.kernel_of_table(T).replace(b'11,', b'12,'),
     'fault.tls': published_kernel().replace(b'JUL-1', b'JUL-2', 1),
     'empty.tls': b'',
-    'full.tls': (BEGIN_DATA + OURS).ljust(second.MOST_KERNEL_BYTES),
-    'long.tls': (BEGIN_DATA + OURS).ljust(second.MOST_KERNEL_BYTES + 1),
+    'full.tls': (BEGIN_DATA + OURS).ljust(desk.MOST_FILE_BYTES),
+    'long.tls': (BEGIN_DATA + OURS).ljust(desk.MOST_FILE_BYTES + 1),
     'f\xfcr to on.tls': second.kernel_of_table(T),
 }
-STORED_KERNEL = 'leapseconds.tls'
+CARD_FILES = {
+    'falling.tp': cards_file(*COMMENTS, THIRD_CARD, b'', SECOND_CARD, FIRST_CARD),
+    'taken out, and "named".tp': second.cards_of_table(N),
+    'no table.tp': cards_file(FIRST_CARD, card_of(6, 12)),
+    'fault.tp': cards_file(FIRST_CARD, COMMENTS[0], card_of(6, 11, kind=b'ZP'), THIRD_CARD),
+    'order.tp': cards_file(THIRD_CARD, FIRST_CARD, SECOND_CARD),
+    'tcon.tim': cards_file(*COMMENTS, *SOURCE_CARDS),
+    'many.tp': cards_file(*(card_of(month, 10 + month) for month in range(65))),
+    'empty.tp': b'',
+    'full.tp': cards_file(FIRST_CARD).ljust(desk.MOST_FILE_BYTES),
+    'long.tp': cards_file(FIRST_CARD).ljust(desk.MOST_FILE_BYTES + 1),
+    'long and bad.tp': b'x\n'.ljust(desk.MOST_FILE_BYTES + 1),
+    'f\xfcr to on.tp': second.cards_of_table(T),
+}
+FILES = {**KERNEL_FILES, **CARD_FILES}
+STORED_KERNEL, STORED_CARDS = 'leapseconds.tls', 'leapseconds.tp'  # both of Bulletin C
 NO_FILES = ('no-such-file', '.', '..', '', ' ', './', 'no-such-file/x', STORED_KERNEL + '/x', STORED_KERNEL + ' ', ' ' + STORED_KERNEL,
-            STORED_KERNEL + '\x00', '\xff\xfe', 'n' * 300)
+            STORED_KERNEL + '\x00', STORED_CARDS + '/x', STORED_CARDS + '.', '\xff\xfe', 'n' * 300)
 
 
-def lay_out_kernels(folder):
+def lay_out_files(folder):
     """For `desk` to run there."""
-    shutil.copy(os.path.join(os.path.dirname(os.path.abspath(__file__)), '..', 'examples', STORED_KERNEL), folder)
-    for name, file in KERNEL_FILES.items():
+    for name in (STORED_KERNEL, STORED_CARDS):
+        shutil.copy(os.path.join(os.path.dirname(os.path.abspath(__file__)), '..', 'examples', name), folder)
+    for name, file in FILES.items():
         with open(os.path.join(os.fsencode(folder), name.encode('latin-1')), 'wb') as output:
             output.write(file)
 
 
-def table_of_file(name):
+def table_of_file(name, read, stored):
     """No file is opened here: lines do not depend on where the generator runs."""
-    if re.fullmatch(r'(\./+)?' + re.escape(STORED_KERNEL), name):
+    if re.fullmatch(r'(\./+)?' + re.escape(stored), name):
         return BULLETIN
-    if name not in KERNEL_FILES:
+    if name not in FILES:
         return desk.NO_TABLE
     try:
-        return second.read_kernel(KERNEL_FILES[name])
+        return read(FILES[name])
     except Refused:
         return desk.NO_TABLE
 
 
+def table_of_cards(file):
+    """A file that is too long leaves no table."""
+    return desk.NO_TABLE if len(file) > desk.MOST_FILE_BYTES else second.read_cards(file)
+
+
+REQUESTS_WITH_FILES = {  # each with its reader, and the stored file that it takes
+    'table kernel ': (second.read_kernel, STORED_KERNEL),
+    'table cards ': (table_of_cards, STORED_CARDS),
+}
+
+
 def table_behind(table, line):
     """The table in force behind a line, or none."""
-    kernel = 'table kernel '
-    if line.startswith(kernel) and len(line) <= LIMIT:
-        return table_of_file(line[len(kernel):])
+    for words, (read, stored) in REQUESTS_WITH_FILES.items():
+        if line.startswith(words) and len(line) <= LIMIT:
+            return table_of_file(line[len(words):], read, stored)
     return desk.answer(table, line.encode('latin-1')).table if line.startswith(('table ', 'vouched ')) else table
 
 
@@ -228,11 +256,12 @@ NO_HEX = ('0', '010', 'zz', '0g', '0x01', '01 ', ' 01', '01 02', '01\r', '-', '0
 NO_MONTHS = ('', '2026', '2026-', '2026-00', '2026-13', '2026-1', '2026-1 ', '2026-012', '2026/12', '202612', '1971-12', '0000-01',
              '10000-01', '2026-12-01', '2026-12 ', ' 2026-12', '2026-12\r', '2O26-12', '-026-12', '+2026-12', '2026-1\xb2',
              'December 2026', '9999-13')
-NO_REFUSALS = ('', '0', '15', '16', '99', '06', '00', '001', '+6', '-6', '6.', '6.0', ' 6', '6 ', '6\r', 'six', 'ROOM', '1 4', '\xb2',
+NO_REFUSALS = ('', '0', '16', '17', '99', '06', '00', '001', '+6', '-6', '6.', '6.0', ' 6', '6 ', '6\r', 'six', 'ROOM', '1 4', '\xb2',
                '4294967302', '18446744073709551622')
 NO_REQUESTS = (' ', '?', '# a note', 'hello', 'Help', 'HELP', 'help ', ' help', 'help me', 'help\r', 'table ', 'Table', 'tables',
-               'table x', 'table blocks 01', 'table block', 'table kernel', 'table kernels x', 'vouch 2026-12', 'vouched', 'why', 'why?',
-               'between', 'show', 'after', 'add', 'pass', 'between\tUTC 2016-12-31T23:58:30',
+               'table x', 'table blocks 01', 'table block', 'table kernel', 'table kernels x', 'table cards', 'table card x',
+               'table cards\tx', 'vouch 2026-12', 'vouched', 'why', 'why?', 'between', 'show', 'after', 'add', 'pass',
+               'between\tUTC 2016-12-31T23:58:30',
                'Between UTC 2016-12-31T23:58:30 and UTC 2016-12-31T23:58:30',
                'UTC 2016-12-31T23:58:30', 'show  UTC 2016-12-31T23:58:30 on GPS', '\r', '\x00', '\x7f\x80\xff', 'caf\xe9', 'a,b', '"')
 LONG_LINES = (
@@ -242,6 +271,8 @@ LONG_LINES = (
     lambda size: to_size('table block 01', '', size, '8'),
     lambda size: to_size('table kernel ', '', size),
     lambda size: to_size('table kernel .', STORED_KERNEL, size, '/'),
+    lambda size: to_size('table cards ', '', size),
+    lambda size: to_size('table cards .', STORED_CARDS, size, '/'),
     lambda size: to_size('after UTC 2016-12-31T23:59:59', '', size, ' '),
     lambda size: to_size('why ', '6', size, '0'),
     lambda size: to_size('', '', size, '\xff'),
@@ -259,7 +290,7 @@ class Lines:
     """Random lines; it remembers the table that they have set, or that they have lost."""
 
     WEIGHTS = ((20, 'between'), (20, 'show'), (12, 'after'), (20, 'add'), (18, 'pass'), (1, 'table'), (5, 'block'), (3, 'kernel'),
-               (5, 'vouched'), (3, 'why'), (1, 'help'), (3, 'other'), (4, 'cut'), (3, 'damaged'), (1, 'long'))
+               (3, 'cards'), (5, 'vouched'), (3, 'why'), (1, 'help'), (3, 'other'), (4, 'cut'), (3, 'damaged'), (1, 'long'))
 
     def __init__(self, seed):
         self.dice = Dice(seed)
@@ -285,11 +316,12 @@ class Lines:
 
     def line_good_table(self):
         if self.dice.chance(0.2):
-            return 'table kernel ' + self.good_kernel()
+            words = self.dice.pick(list(REQUESTS_WITH_FILES))
+            return words + self.stored_name(words)
         return block_line(self.dice.pick((BULLETIN, BULLETIN, T, N, TWO_DOWN, None, None)) or random_table(self.dice))
 
-    def good_kernel(self):
-        return self.dice.pick((STORED_KERNEL, './' + STORED_KERNEL))
+    def stored_name(self, words):
+        return self.dice.pick(('', './')) + REQUESTS_WITH_FILES[words][1]
 
     def line_between(self):
         return 'between {} and {}'.format(*two_stamps(self.dice, self.about))
@@ -322,9 +354,16 @@ class Lines:
         return 'table block ' + line[12:].upper() if self.dice.chance(0.2) else line
 
     def line_kernel(self):
-        if self.dice.chance(0.4):
-            return 'table kernel ' + self.dice.pick(NO_FILES)
-        return 'table kernel ' + (self.dice.pick(list(KERNEL_FILES)) if self.dice.chance(0.4) else self.good_kernel())
+        return self.line_of_file('table kernel ', KERNEL_FILES)
+
+    def line_cards(self):
+        return self.line_of_file('table cards ', CARD_FILES)
+
+    def line_of_file(self, words, files):
+        kind = self.dice.weighted(((9, 'none'), (5, 'its kind'), (1, 'any kind'), (9, 'stored')))
+        if kind == 'stored':
+            return words + self.stored_name(words)
+        return words + self.dice.pick({'none': NO_FILES, 'its kind': list(files), 'any kind': [*FILES, STORED_KERNEL, STORED_CARDS]}[kind])
 
     def line_vouched(self):
         if self.dice.chance(0.15):
@@ -332,7 +371,7 @@ class Lines:
         return vouched_line(min(max(0, random_vouched_number(self.dice, self.about) - 1), LAST_MONTH))
 
     def line_why(self):
-        return 'why ' + (self.dice.pick(NO_REFUSALS) if self.dice.chance(0.3) else str(self.dice.between(1, 14)))
+        return 'why ' + (self.dice.pick(NO_REFUSALS) if self.dice.chance(0.3) else str(self.dice.between(1, 15)))
 
     def line_help(self):
         return 'help'
@@ -378,6 +417,7 @@ EXAMPLES = (
     'pass AURORA-3 from UTC 2016-12-31T23:58:30 to UTC 2017-01-01T00:01:30',
     'table',
     'table kernel leapseconds.tls',
+    'table cards leapseconds.tp',
     block_line(BULLETIN),
     'vouched 2026-12',
     'why 6',
@@ -662,6 +702,31 @@ KERNELS = (
     'after UTC 2016-12-31T23:59:59',
 )
 
+CARDS = (
+    block_line(T),
+    'table cards no-such-file',
+    'table cards .',
+    'table cards ',
+    'table cards',
+    'table cards\tleapseconds.tp',
+    'table card leapseconds.tp',
+    'table cards leapseconds.tp ',
+    'table cards  leapseconds.tp',
+    'table cards leapseconds.tp/x',
+    'table cards no\tfile, "none"',
+    'table cards leapseconds.tls',
+    'table kernel leapseconds.tp',
+    block_line(T),
+    'vouched 1973-01',
+    'table cards leapseconds.tp',
+    'table',
+    'table cards ./leapseconds.tp',
+    'after UTC 2016-12-31T23:59:59',
+    'vouched 2026-12',
+    'table cards .//leapseconds.tp',
+    'after UTC 2026-12-31T23:59:59',
+)
+
 VOUCHED = (
     'vouched 2026-12',
     'after UTC 2026-12-31T23:59:58',
@@ -721,7 +786,7 @@ VOUCHED = (
 )
 
 REASONS = (
-    *(f'why {number}' for number in range(16)),
+    *(f'why {number}' for number in range(17)),
     'why 06',
     'why ',
     'why',
@@ -809,11 +874,16 @@ WITHOUT_TABLE = (
     'after UTC 2016-12-31T23:59:59',
     'table kernel leapseconds.tls',
     'after UTC 2026-12-31T23:59:59',
+    'table cards no-such-file',
+    'table cards leapseconds.tp',
+    'after UTC 2016-12-31T23:59:59',
     *(line for losing in ('table block ', 'table block 02', 'table block 8100', 'table block 0201', 'table block 41', 'table block 0100',
-                          'table block zz', 'table kernel no-such-file', 'table kernel ')
+                          'table block zz', 'table kernel no-such-file', 'table kernel ', 'table kernel leapseconds.tp',
+                          'table cards no-such-file', 'table cards ', 'table cards leapseconds.tls')
       for line in (losing, 'after UTC 2016-12-31T23:59:59', block_line(BULLETIN))),
     'table block',
     'table kernel',
+    'table cards',
     'after UTC 2016-12-31T23:59:59',
 )
 
@@ -831,7 +901,7 @@ def with_table_again(lines):
 
 def stored_lines():
     """All ASCII and no NUL, so that tools for text take the file for one; random lines have the other bytes too."""
-    for section in (EXAMPLES, DIFFERENCES, SHOWN, NEXT_SECONDS, SUMS, PASSES, REFUSED_STAMPS, BLOCKS, KERNELS, VOUCHED):
+    for section in (EXAMPLES, DIFFERENCES, SHOWN, NEXT_SECONDS, SUMS, PASSES, REFUSED_STAMPS, BLOCKS, KERNELS, CARDS, VOUCHED):
         yield from with_table_again(section)
     yield from WITHOUT_TABLE
     for section in (REASONS, OTHER_LINES):

@@ -18,6 +18,7 @@ The second program works out which instants, labels and bytes lie at an edge;
 the answers to the lines are no concern of this file.
 """
 
+import itertools
 import math
 import random
 import struct
@@ -28,6 +29,7 @@ from second import BULLETIN_C, DAY, DAY_SECONDS, GPS, LAST_MONTH, LONGEST_LINE, 
 from second import Label, Table
 
 SCALES = (UTC, TAI, TDT, GPS)
+LAST_MONTH_OF_CARDS = second.LAST_MONTH_OF_CARDS
 PICTURES = (0, 1, 2)
 LENGTHS = (19, 17, 20)
 STORED_SEED = 1972
@@ -188,7 +190,7 @@ def malformed_tables(table):
 
 
 def random_months(dice, count):
-    kind = dice.below(6)
+    kind = dice.below(7)
     if kind == 0:
         return neighbours(dice.between(1, LAST_MONTH - count), count)
     if kind == 1:
@@ -204,7 +206,8 @@ def random_months(dice, count):
             month = min(LAST_MONTH, month + dice.pick(GAPS))
             months.append(month)
         return months
-    return sorted({dice.between(1, LAST_MONTH) for _ in range(count)})
+    last = LAST_MONTH if kind == 5 else LAST_MONTH_OF_CARDS
+    return sorted({dice.between(1, last) for _ in range(count)})
 
 
 def random_table(dice):
@@ -710,6 +713,292 @@ def behind_long_text(dice, file):
 
 
 # ---------------------------------------------------------------------------
+# Cards
+
+CARD = {'control': b' ', 'tai': b'10.0', 'ut1': b'', 'rate': b'', 'tdt': b'32.184 ', 'date': b'72001000000.000', 'free': b'  ',
+        'kind': b'TP'}
+WIDTHS = {'control': 1, 'tai': 15, 'ut1': 15, 'rate': 15, 'tdt': 15, 'date': 15, 'free': 2, 'kind': 2}
+
+
+def card(**fields):
+    """The first card of Bulletin C with other fields, each at the right of its columns; one that is too long makes the card so."""
+    return b''.join(field.rjust(WIDTHS[name]) for name, field in {**CARD, **fields}.items())
+
+
+def cards_file(*lines):
+    return b''.join(line + b'\n' for line in lines)
+
+
+def card_of(month, offset, **fields):
+    return card(**{'tai': b'%d.0' % offset, 'date': second.card_date(month), **fields})
+
+
+FIRST_CARD, SECOND_CARD, THIRD_CARD = (card_of(month, offset) for month, offset in ((0, 10), (6, 11), (12, 12)))
+TAI_FIELDS = (  # eleven
+    b'11', b'11.', b'11.0', b'11.0000', b'+11', b'+11.', b'+11.000', b'011', b'000000000000011', b'+0000000000011.', b'11.000000000000',
+    b'11'.ljust(15), b'+11.'.ljust(14), b'11.0'.center(15))
+OTHER_TAI_FIELDS = (  # whole by value and another number
+    b'9', b'9.', b'+9.000', b'12', b'23', b'23.', b'23.0000', b'+23.', b'-11', b'-0', b'0', b'+0', b'.0', b'0.', b'-.0', b'10', b'267',
+    b'65547', b'2147483659', b'4294967307', b'-4294967285', b'999999999999999', b'-99999999999999', b'99999999999999.', b'100000000000011',
+    b'+00000000000000')
+NO_TAI_FIELDS = (b'', b'.', b'+', b'-', b'+.', b'-.', b'23.5', b'2 3', b'1 1', b'--1', b'+-11', b'-+11', b'+ 11', b'- 11', b'11 .',
+                 b'11. 0', b'. 0', b'1e1', b'1E1', b'1.1D1', b'11e0', b'11,0', b'11..', b'1.1.', b'..11', b'.11.', b'11.5',
+                 b'11.00000000001', b'.000000000011', b'10.999999999999', b'0x0B', b'11\t', b'\t11', b'11\r', b'1_1', b'11+', b'11-',
+                 b'11.+', b'+11+', b'eleven', b'11s', b'11\x00', b'\xb9\xb9', b'inf', b'nan', b'/', b':', b'1/1')
+TDT_FIELDS = (b'32.184', b'32.184'.ljust(15), b'32.1840', b'+32.184', b'032.184', b'00000000032.184', b'32.184000000000',
+              b'+00032.18400000', b'32.184'.center(15))
+NO_TDT_FIELDS = (b'', b'32.18', b'32.184.', b'.32184', b'-32.184', b'32', b'32.', b'32.0', b'32,184', b'3.2184e1', b'3.2184E1', b'32.184D0',
+                 b'32 .184', b'32. 184', b'32.1841', b'32.18400000001', b'32.183999999999', b'321.84', b'3.2184', b'32184', b'0.5364',
+                 b'132.184', b'32.184s', b'+ 32.184', b'32.184 1', b'1 32.184', b'\t32.184', b'32.184\r', b'++32.184', b'.', b'0',
+                 b'\xb332.184', b'-2147483615.816', b'4294967328.184', b'4294999.480')
+UT1_FIELDS = (b'0', b'-0', b'0.07174', b'-0.92429', b'+.5', b'5.', b'-.000000000001', b'123456789012345', b'-99999999999.99',
+              b'1'.ljust(15), b'0.5'.center(15))
+NO_UT1_FIELDS = (b'.', b'+', b'-', b'+.', b'1E0', b'1D0', b'1e-3', b'1.2.3', b'1..2', b'1 2', b'0 .5', b'- 1', b'--1', b'1-', b'0x1', b'\t',
+                 b'\r', b'\x00', b'x', b'nan', b'1,5', b'\xb2', b'\xa0')
+CONTROLS = (b' ', b'1', b'0', b'2', b'3', b'9', b'*', b'C', b'c', b'B', b'D', b'+', b')', b'\t', b'\r', b'\x00', b'\x1f', b'!', b'T', b'Z',
+            b'\xa0', b'\xff')
+FREE_COLUMNS = (b' X', b'X ', b'XX', b'00', b'TP', b'ZP', b'*C', b'\r\r', b'\t ', b'\x00\xff')
+KINDS = (b'ZP', b'tp', b'Tp', b'tP', b'T ', b' P', b'  ', b'PT', b'TT', b'PP', b'6P', b'T\r', b'\xd4P', b'TQ', b'SP')
+YEARS_OF_CARDS = (b'49', b'50', b'51', b'69', b'70', b'71', b'72', b'73', b'99', b'00', b'01', b'48')
+DAYS_OF_CARDS = (b'000', b'001', b'002', b'031', b'032', b'033', b'060', b'061', b'091', b'092', b'181', b'182', b'183', b'335', b'336',
+                 b'365', b'366', b'367', b'500', b'999')
+NO_CARD_DATES = (b'', b'73  1000000.000', b'73 01000000.000', b' 2001000000.000', b'7 001000000.000', b'73001', b'73001000000',
+                 b'73001000000.', b'73001000000.00', b'73001000000.00 ', b'73001000000.001', b'73001000000.100', b'73001000001.000',
+                 b'73001000060.000', b'73001000100.000', b'73001010000.000', b'73001240000.000', b'73001      .   ', b'73001      .000',
+                 b'73001 00000.000', b'73001000000,000', b'7300100000 .000', b'73001000000 000', b'730010000000000', b'73001.000000000',
+                 b'7300100000.0000', b'1973001000000.0', b'197300100000000', b'+2001000000.000', b'-2001000000.000', b'73+01000000.000',
+                 b'73-01000000.000', b'7 3001000000.00', b'73001000000.0e0', b'73001000000.000\t', b'73001000000.OOO', b'7300I000000.000',
+                 b'\xb73001000000.000', b'73001000000.00\xb0', b'73/01000000.000', b'730:1000000.000', b'73001000000.00\r')
+BLANK_LINES = (b'', b' ', b' ' * 12, b' ' * 79, b' ' * 80, b' ' * 81, b' ' * 200)
+COMMENTS = (b'*', b'C', b'c', b'*' * 79, b'*' * 80, b'*' * 81, b'* TAI-UTC, seconds', b'C\r', b'c\x00\xff', b'Comment'.ljust(300),
+            b'*TP'.rjust(80, b'*'), b'C' + FIRST_CARD[1:], b'c' + SECOND_CARD[1:])
+NO_CARDS = (b'\t', b'\r', b'\x00', b'x', b'1', b'TP', b' TP', b'\xa0', b'#', b'// no comment', b' *', b' C', b'\t*', b'-', b' ' * 79 + b'x',
+            b' ' * 79 + b'\t', b' ' * 80 + b'\r', b' ' * 78 + b'TP', b'1'.ljust(78) + b'TP', b' ' * 77 + b'TP', b' ' * 79 + b'TP',
+            FIRST_CARD[:-1], FIRST_CARD[1:], FIRST_CARD + b' ', FIRST_CARD + b'\r', FIRST_CARD + b'\x00', b' ' + FIRST_CARD,
+            FIRST_CARD + FIRST_CARD, FIRST_CARD + b' ' + SECOND_CARD, FIRST_CARD[:40], FIRST_CARD[40:], FIRST_CARD.strip(b' '),
+            FIRST_CARD.lower(), FIRST_CARD.replace(b' ', b'\t'),
+            b'    86 181            0.07174       -0.92429      23.00000      32.18400',
+            b' 97 253  10-Sep-97   31   0.43191   -1.971    0.2125    0.4359')
+SOURCE_CARDS = (  # as the description of the cards has them; three are dated a day early
+    card(tai=b'23.0', date=b'85181000000.000'), card(tai=b'22.0', date=b'83181000000.000'), card(tai=b'11.0', date=b'72182000000.000'),
+    card(tai=b'10.0', date=b'72001000000.000'))
+
+
+def cards_of_fields():
+    """Each field in turn, in the second card; in the first where this is another matter."""
+    fields = (('tai', TAI_FIELDS + OTHER_TAI_FIELDS + NO_TAI_FIELDS), ('tdt', TDT_FIELDS + NO_TDT_FIELDS),
+              ('ut1', UT1_FIELDS + NO_UT1_FIELDS), ('rate', UT1_FIELDS[:4] + NO_UT1_FIELDS[:8]), ('control', CONTROLS),
+              ('free', FREE_COLUMNS), ('kind', KINDS), ('date', NO_CARD_DATES))
+    for name, values in fields:
+        for value in values:
+            yield cards_file(FIRST_CARD, card_of(6, 11, **{name: value}))
+    for tai in (b'10', b'+10.', b'10.000', b'0010.', b'10'.ljust(15), b'1 0', b'10.1', b'.', b'1e1'):
+        yield cards_file(card(tai=tai))
+    for control in CONTROLS[:9]:
+        yield cards_file(card(control=control))
+    zeros = [card_of(month, 10 - month) for month in range(10)]
+    for tai in (b'0', b'-0', b'+0', b'-0.0', b'.0', b'-.000', b'0.', b'-00000000000000'):
+        yield cards_file(*zeros, card_of(10, 0, tai=tai))
+    yield cards_file(*zeros, card_of(10, 0), card_of(11, -1), card_of(12, -2, tai=b'-2.'))
+
+
+def cards_of_dates():
+    """Years and days about every limit: behind the first card, where all later dates rise."""
+    def behind_first(date):
+        return cards_file(FIRST_CARD, card(tai=b'11.0', date=date + b'000000.000'))
+    for year in YEARS_OF_CARDS:
+        for day in (b'001', b'002', b'366'):
+            yield behind_first(year + day)
+    for year in (b'72', b'73', b'00'):
+        yield from (behind_first(year + day) for day in DAYS_OF_CARDS)
+    for year in (1976, 2047):
+        for month in range(1, 13):
+            first = second.day_of_year(year, month, 1)
+            yield from (behind_first(b'%02d%03d' % (year % 100, day)) for day in (first - 1, first))
+    for year in (b'50', b'71', b'72', b'49'):
+        yield cards_file(card(date=year + b'001000000.000'))
+
+
+def cards_of_months(months):
+    """A card for each, with the offset that it has where these months are a table."""
+    rank = {month: 10 + place for place, month in enumerate(sorted(set(months)))}
+    return [card_of(month, rank[month]) for month in months]
+
+
+def cards_of_order():
+    """Each order of up to four cards, also with one date twice; and order that is broken late."""
+    for count in (2, 3):
+        for months in itertools.product((0, 6, 12), repeat=count):
+            yield cards_file(*cards_of_months(months))
+    for months in itertools.permutations((0, 6, 12, 18)):
+        yield cards_file(*cards_of_months(months))
+    rising = list(range(0, 60, 6))
+    for months in (rising, rising[::-1]):
+        for place, month in ((3, 0), (3, 54), (5, months[4]), (5, months[3]), (9, months[8]), (9, months[0]), (9, 30)):
+            yield cards_file(*cards_of_months(months[:place] + [month] + months[place + 1:]))
+        yield cards_file(*cards_of_months(months), b'* a comment between', b'', cards_of_months(months)[0])
+
+
+def cards_of_counts():
+    """As many cards as a table has, or more, rising and falling: a bad line decides before their number."""
+    def some(count, step=1):
+        return [card_of(month, 10 + step * month) for month in range(count)]
+    for count in (0, 1, 2, 64, 65):
+        for step in (1, -1):
+            yield cards_file(*some(count, step))
+            yield cards_file(*some(count, step)[::-1])
+    yield from (cards_file(*some(count)) for count in (63, 66, 130))
+    many = some(65)
+    for bad in (b'x', many[-1], many[0], card_of(65, 75, kind=b'ZP'), card_of(65, 75, tai=b'75.5')):
+        yield cards_file(*many, bad)
+        yield cards_file(*many[::-1], bad, b'y')
+
+
+def cards_of_tables():
+    """Good cards that are no table."""
+    for entries in (((0, 11),), ((0, 9),), ((0, 0),), ((1, 10),), ((6, 11),), ((935, 10),), ((0, 10), (6, 12)), ((0, 10), (6, 10)),
+                    ((0, 10), (6, 8)), ((0, 10), (6, 11), (12, 13)), ((0, 10), (6, 11), (12, 11)), ((0, 11), (6, 10)), ((0, 11), (6, 12)),
+                    ((1, 10), (6, 11)), ((0, -10), (1, -9)), ((0, 10), (6, 11), (12, 10), (18, 8))):
+        cards = [card_of(month, offset) for month, offset in entries]
+        yield cards_file(*cards)
+        if len(cards) > 1:
+            yield cards_file(*cards[::-1])
+
+
+def cards_of_lines():
+    """Lines that are passed over and lines that are bad, before the cards, between them and behind them; and ends of files."""
+    for line in BLANK_LINES + COMMENTS + NO_CARDS:
+        yield cards_file(FIRST_CARD, line, SECOND_CARD)
+        yield cards_file(FIRST_CARD, SECOND_CARD) + line
+    for line in BLANK_LINES + COMMENTS:
+        yield line
+        yield cards_file(line, line, FIRST_CARD)
+    good = cards_file(*COMMENTS[:3], THIRD_CARD, b'', SECOND_CARD, b' ' * 90, FIRST_CARD)
+    for file in (good, good[:-1], good + b'\n', good + b'*', good + b'x', good + FIRST_CARD, good + b' ' * 80, b'\n' * 3 + good):
+        yield file
+    yield good.replace(b'\n', b'\r\n')
+    for bad in (FIRST_CARD[:-1], card(kind=b'ZP'), FIRST_CARD + b'\r', b'1'):
+        for place in range(4):
+            lines = [FIRST_CARD, SECOND_CARD, THIRD_CARD]
+            lines.insert(place, bad)
+            yield cards_file(*lines)[:-1] if place % 2 == 1 else cards_file(*lines, b'x')
+
+
+def cards_of_bulletin():
+    """Bulletin C's cards cut at each kind of place, and the other way round."""
+    written = second.cards_of_table(BULLETIN)
+    yield written
+    yield cards_file(*reversed(written.splitlines()))
+    for whole, columns in ((0, (1, 12, 13, 80)), (1, (0, 1, 2, 12, 13, 15, 16, 17, 54, 60, 61, 62, 75, 76, 77, 78, 79, 80)),
+                           (2, (0, 12, 13, 16, 61, 76, 79, 80)), (27, (0, 1, 12, 13, 79, 80))):
+        yield from (written[:81 * whole + column] for column in columns)
+    for whole in (1, 14):
+        yield from (written[81 * whole + column:] for column in (0, 1, 40, 80))
+    for months in ((935,), range(5, 12), range(936 - 63, 936)):
+        yield second.cards_of_table(table_of_steps(months, [-1] * len(months)))
+
+
+def damaged_cards(line):
+    """The card wrong at each place."""
+    for place in range(len(line)):
+        for byte in b'0 \x80' if place % 2 == 0 else b'0 ':
+            if byte != line[place]:
+                yield line[:place] + bytes([byte]) + line[place + 1:]
+    for place in (0, 1, 11, 12, 16, 40, 78, 79):
+        yield line[:place] + b'\n' + line[place + 1:]
+
+
+def cards_of_source():
+    yield from (cards_file(line) for line in SOURCE_CARDS)
+    yield cards_file(*SOURCE_CARDS)
+    yield cards_file(*(b'*' + line[1:] for line in SOURCE_CARDS))
+    a_day_later = [line.replace(b'181000', b'182000').replace(b'72182', b'72183') for line in SOURCE_CARDS]
+    yield cards_file(*a_day_later)
+    yield cards_file(*a_day_later[2:])
+
+
+# Random cards
+
+def random_decimal(dice, value):
+    """A whole number or one with decimals, laid out in any way, at any place of its field."""
+    whole, _, decimals = value.lstrip(b'-').partition(b'.')
+    sign = b'-' if value.startswith(b'-') else dice.pick((b'', b'', b'', b'+'))
+    decimals += b'0' * dice.pick((0, 0, 1, 3))
+    text = sign + b'0' * dice.pick((0, 0, 0, 1, 2)) + whole + (b'.' + decimals if decimals or dice.chance(0.3) else b'')
+    return text.ljust(len(text) + dice.below(max(1, 16 - len(text))))
+
+
+def random_card(dice, month, offset):
+    offset += dice.pick((1, -1)) if dice.chance(0.01) else 0
+    card_fields = {'tai': random_decimal(dice, b'%d' % offset), 'tdt': random_decimal(dice, b'32.184')}
+    for name in ('ut1', 'rate'):
+        card_fields[name] = dice.pick(UT1_FIELDS) if dice.chance(0.3) else b''
+    if dice.chance(0.2):
+        card_fields['free'] = dice.pick(FREE_COLUMNS)
+    return card(date=second.card_date(month), control=dice.pick((b' ', b' ', b' ', b'1')), **card_fields)
+
+
+FIELDS_THAT_SPOIL = (('tai', NO_TAI_FIELDS + OTHER_TAI_FIELDS), ('tdt', NO_TDT_FIELDS), ('ut1', NO_UT1_FIELDS), ('rate', NO_UT1_FIELDS),
+                     ('date', NO_CARD_DATES), ('control', CONTROLS), ('kind', KINDS), ('free', FREE_COLUMNS))
+
+
+def spoilt_card(dice, month, offset):
+    """A field is one of those that are mostly bad, or the date is another day."""
+    if dice.chance(0.3):
+        date = dice.pick(YEARS_OF_CARDS) + (dice.pick(DAYS_OF_CARDS) if dice.chance(0.5) else b'%03d' % dice.below(370)) + b'000000.000'
+        return card_of(month, offset, date=date)
+    name, values = dice.pick(FIELDS_THAT_SPOIL)
+    return card_of(month, offset, **{name: dice.pick(values)})
+
+
+def random_table_of_cards(dice, table):
+    if dice.chance(0.1) and edges_of(table).used_months[-1] <= LAST_MONTH_OF_CARDS:
+        return edges_of(table)
+    count = dice.pick((0, 1, 1, 1, 2, 2, 3, 4, 8, dice.below(64)))
+    months = sorted({dice.pick((dice.between(1, LAST_MONTH_OF_CARDS), 6 * dice.between(1, 155))) for _ in range(count)})
+    return table_of_steps(months, [dice.pick((1, 1, -1)) for _ in months])
+
+
+def damaged_lines_of_cards(dice, lines, entries):
+    """Lines exchanged, doubled, left out or put in, or a card with a bad field."""
+    place, other = dice.below(len(lines)), dice.below(len(lines))
+    kind = dice.below(6)
+    if kind == 0:
+        lines[place], lines[other] = lines[other], lines[place]
+    elif kind == 1:
+        lines.insert(place, lines[other])
+    elif kind == 2:
+        lines.pop(place)
+    elif kind == 3:
+        lines.insert(place, dice.pick(NO_CARDS))
+    else:
+        lines[place] = spoilt_card(dice, *dice.pick(entries))
+
+
+def random_cards(dice, table):
+    table = random_table_of_cards(dice, table)
+    entries = list(zip(table.used_months, table.offsets))
+    lines = [random_card(dice, *entry) for entry in (entries[::-1] if dice.chance(0.4) else entries)]
+    for _ in range(dice.pick((0, 0, 1, 3))):
+        lines.insert(dice.below(len(lines) + 1), dice.pick(BLANK_LINES + COMMENTS))
+    if dice.chance(0.45):
+        damaged_lines_of_cards(dice, lines, entries)
+    file = cards_file(*lines)
+    if dice.chance(0.3):
+        file = file[:-1]
+    return damaged_at_byte(dice, file) if file and dice.chance(0.2) else file
+
+
+def damaged_at_byte(dice, file):
+    place = dice.below(len(file))
+    kind = dice.below(4)
+    if kind == 0:
+        return file[:place]
+    byte = bytes([dice.pick(b' 01.+-TP*C\n\r\t\x00\x80')]) if kind == 1 else bytes([dice.below(256)])
+    return file[:place] + (byte if kind < 3 else b'') + file[place + 1:]
+
+
+# ---------------------------------------------------------------------------
 # Texts
 
 DAYS_OF_YEAR = (0, 1, 31, 32, 59, 60, 61, 181, 182, 183, 364, 365, 366, 367, 400, 999)
@@ -937,6 +1226,7 @@ LONG_LINES = (  # each of any size: a good call made long by leading zeros, a lo
     lambda size: 'stamp_of -' + '5'.rjust(size - 12, '0') + ' 1',
     lambda size: ('read_block ' if size % 2 == 1 else 'read_block -').ljust(size, '0'),
     lambda size: ('read_kernel ' if size % 2 == 0 else 'read_kernel -').ljust(size, '3'),
+    lambda size: ('read_cards ' if size % 2 == 1 else 'read_cards -').ljust(size, '3'),
     lambda size: ('read_text 0 ' if size % 2 == 0 else 'read_text 00 ').ljust(size, '3'),
     lambda size: 'start'.ljust(size),
     lambda size: 'x' * size,
@@ -956,7 +1246,8 @@ def random_long_line(dice):
 
 
 GOOD_LINES = (
-    'table 2 2 0 10 6 11', 'read_block 030C0c', 'read_block -', 'write_block 29', 'read_kernel 5C5c', 'write_kernel 60',
+    'table 2 2 0 10 6 11', 'read_block 030C0c', 'read_block -', 'write_block 29', 'read_kernel 5C5c', 'write_kernel 60', 'read_cards 2a2A',
+    'write_cards 162',
     'instant_of 0 1972 6 30 23 59 60 250000',
     'stamp_of -867931190000000 0', 'read_text 0 313937322d30372d30315430303a30303a3030', 'read_text 1 -', 'write_text 0 0 1 3 23',
     'write_julian 0 1', 'read_julian 1 4142b42c40000000 3fe0000000000000', 'start', 'tick 1972 6 30 23 59 59', 'vouch 541',
@@ -989,11 +1280,13 @@ OTHER_LINES = ('', ' ', '-', '?', '#', 'ok', '\r', 'starts', 'star', 'START', 't
                'table 2 2 0 10 4294967296 11', 'table 2 2 0 10 6 2147483648', 'table 2 2 0 10 6 -2147483648',
                'table 2 2 0 10 6 -2147483649', 'table 2 2 0 10 -6 11', 'table 02 02 00 010 06 0011', 'table 2 2 -0 10 6 11',
                'tick 1972 1 1 0 0 -0', 'read_block 0', 'read_block 0g', 'read_block 01 ', 'read_block 0 1', 'read_block --',
-               'read_block -01', 'write_block 4096', 'write_block 4097', 'write_block -1', 'write_block 18446744073709551616',
-               'write_text 0 0 0 0 4097', 'write_text 0 0 0 0 0', 'write_text 0 0 0 0 4096', 'read_kernel', 'read_kernel -',
-               'read_kernel 5', 'read_kernel 5g', 'read_kernel -5c', 'write_kernel 4096', 'write_kernel 4097', 'write_kernel -1',
-               'write_kernel', 'vouch', 'vouch ', 'vouch x', 'vouch 1 2', 'vouch -1', 'vouch 4294967295', 'vouch 4294967296', 'vouched 1',
-               'vouch 00541', 'vouch -0', 'café', 'read_text 0 é', '\xff\xfe', 'start\x0b', 'start #')
+               'read_block -01', 'write_block 8192', 'write_block 8193', 'write_block -1', 'write_block 18446744073709551616',
+               'write_text 0 0 0 0 8193', 'write_text 0 0 0 0 0', 'write_text 0 0 0 0 8192', 'read_kernel', 'read_kernel -',
+               'read_kernel 5', 'read_kernel 5g', 'read_kernel -5c', 'write_kernel 8192', 'write_kernel 8193', 'write_kernel -1',
+               'write_kernel', 'read_cards', 'read_cards -', 'read_cards 2', 'read_cards 2g', 'read_cards -2a', 'write_cards 8192',
+               'write_cards 8193', 'write_cards -1', 'write_cards', 'read_card 2a', 'write_card 81', 'vouch', 'vouch ', 'vouch x',
+               'vouch 1 2', 'vouch -1', 'vouch 4294967295', 'vouch 4294967296', 'vouched 1', 'vouch 00541', 'vouch -0', 'café',
+               'read_text 0 é', '\xff\xfe', 'start\x0b', 'start #')
 
 
 # ---------------------------------------------------------------------------
@@ -1003,6 +1296,7 @@ class Lines:
     """Random lines; it remembers the table that they have set."""
 
     WEIGHTS = ((4, 'table'), (5, 'vouch'), (10, 'read_block'), (3, 'write_block'), (14, 'read_kernel'), (2, 'write_kernel'),
+               (14, 'read_cards'), (3, 'write_cards'),
                (12, 'instant_of'), (14, 'stamp_of'), (18, 'read_text'), (14, 'write_text'), (8, 'write_julian'), (14, 'read_julian'),
                (1, 'start'), (12, 'tick'), (5, 'damaged'))
 
@@ -1042,6 +1336,12 @@ class Lines:
 
     def line_write_kernel(self):
         return call('write_kernel', random_room(self.dice, len(second.kernel_of_table(edges_of(self.table)))))
+
+    def line_read_cards(self):
+        return cards_line(random_cards(self.dice, self.table))
+
+    def line_write_cards(self):
+        return call('write_cards', random_room(self.dice, size_of_cards(edges_of(self.table))))
 
     def line_instant_of(self):
         microsecond = self.dice.pick((SECOND, SECOND + 1, 2**32 - 1)) if self.dice.chance(0.04) else random_microsecond(self.dice)
@@ -1253,7 +1553,7 @@ def calendar():
 def one_of_each_call(scale):
     """Calls with nothing else wrong, then with all else wrong: the order of 8, 11 and the rest."""
     yield from ('start', 'tick 1972 6 30 23 59 59', 'tick 0 0 0 99 99 99', 'write_block 256', 'write_block 0', 'write_kernel 256',
-                'write_kernel 0')
+                'write_kernel 0', 'write_cards 256', 'write_cards 0')
     yield call('instant_of', scale, 1972, 6, 30, 23, 59, 59, 0)
     yield call('instant_of', scale, 0, 0, 0, 99, 99, 99, SECOND)
     yield call('stamp_of', -867_931_190_000_000, scale)
@@ -1275,6 +1575,9 @@ def tables():
         yield from (call('write_block', size), call('write_block', size - 1), call('read_block', hex_word(second.block_of_table(table))))
         kernel = second.kernel_of_table(table)
         yield from (call('write_kernel', len(kernel)), call('write_kernel', len(kernel) - 1), kernel_line(kernel))
+        yield call('write_cards', size_of_cards(table))
+        if table.used_months[-1] <= LAST_MONTH_OF_CARDS:
+            yield from (call('write_cards', size_of_cards(table) - 1), cards_line(second.cards_of_table(table)))
         months = list(table.steps)
         for month in sorted(set(months[:2] + months[-1:])):
             for label in labels_of_night(month, table.steps[month]):
@@ -1288,7 +1591,8 @@ def tables():
         for heading, malformed in malformed_tables(table):
             yield '# malformed: ' + heading
             yield table_line(malformed)
-            yield from ('start', 'tick 1972 6 30 23 59 59', 'write_block 256', 'write_kernel 0', call('stamp_of', 0, TAI))
+            yield from ('start', 'tick 1972 6 30 23 59 59', 'write_block 256', 'write_kernel 0', 'write_cards 243')
+            yield call('stamp_of', 0, TAI)
     for malformed in (changed(T, count=0), changed(N, offset=(1, 12))):
         for scale in (UTC, GPS, 4):
             yield table_line(malformed)
@@ -1335,6 +1639,65 @@ def kernels():
     yield table_line(BULLETIN)
     for room in (0, 1_031, 1_032, 1_033, MOST_ROOM, MOST_ROOM + 1):
         yield call('write_kernel', room)
+
+
+def cards_line(file):
+    return call('read_cards', hex_word(file))
+
+
+def size_of_cards(table):
+    return (second.CARD_BYTES + 1) * table.count
+
+
+def written_cards():
+    """Rooms about each size; the last year of cards and the next; months that the table is vouched for."""
+    def down(months):
+        return table_of_steps(months, [-1] * len(months))
+    yield table_line(BULLETIN)
+    for room in (0, 1, 80, 81, 2_267, 2_268, 2_269, MOST_ROOM - 1, MOST_ROOM, MOST_ROOM + 1):
+        yield call('write_cards', room)
+    last = LAST_MONTH_OF_CARDS
+    for table in (table_of_steps([], []), table_of_one_step(last, 1), table_of_one_step(last, -1), down(neighbours(1, 63)),
+                  down(neighbours(last - 62, 63)), table_of_steps(neighbours(last - 62, 63), [1] * 63)):
+        yield table_line(table)
+        size = size_of_cards(table)
+        yield from (call('write_cards', room) for room in (0, size - 81, size - 1, size, size + 1))
+    for table in (table_of_one_step(last + 1, 1), table_of_steps((last, last + 1), (1, -1)), table_of_one_step(LAST_MONTH, -1),
+                  down(neighbours(last - 61, 63))):
+        yield table_line(table)
+        yield from (call('write_cards', room) for room in (0, 81, size_of_cards(table), MOST_ROOM, MOST_ROOM + 1))
+    yield '# vouched'
+    for table in (T, table_of_one_step(last, 1), table_of_one_step(last + 1, 1)):
+        yield table_line(table)
+        for number in vouched_numbers(table):
+            yield from (vouch_line(number), call('write_cards', size_of_cards(table)))
+        yield from ('write_cards 1', vouch_line(0), 'write_cards 1')
+    yield '# not accepted, and with an entry after the last year of cards'
+    for _, malformed in list(malformed_tables(table_of_one_step(last + 1, -1)))[::4]:
+        yield from (table_line(malformed), 'write_cards 162', 'write_cards 0')
+    yield table_line(BULLETIN)
+
+
+PARTS_OF_CARDS = (
+    ('as the description of the cards has them', cards_of_source),
+    ("Bulletin C's, whole and cut", cards_of_bulletin),
+    ('each field', cards_of_fields),
+    ('years and days', cards_of_dates),
+    ('order', cards_of_order),
+    ('many, and too many', cards_of_counts),
+    ('good cards that are no table', cards_of_tables),
+    ('lines that are no cards', cards_of_lines),
+)
+
+
+def cards():
+    for heading, part in PARTS_OF_CARDS:
+        yield '# cards: ' + heading
+        yield from map(cards_line, part())
+    yield '# a card damaged at each place, behind another'
+    yield from (cards_line(cards_file(FIRST_CARD, line)) for line in damaged_cards(SECOND_CARD))
+    yield '# cards written'
+    yield from written_cards()
 
 
 def texts():
@@ -1616,7 +1979,8 @@ def numbers_in_force():
     block, kernel = (hex_word(part(BULLETIN)) for part in (second.block_of_table, second.kernel_of_table))
     yield from (table_line(BULLETIN), beyond, vouch_line(541), beyond, vouch_line(542), beyond, vouch_line(540), beyond, vouch_line(541))
     for line in ('table', 'table 1 1 0', 'table 1 65', 'write_block 29', 'write_kernel 1032', call('read_block', block), 'read_block 01',
-                 call('read_kernel', kernel), 'vouch 1 2', 'vouch', '', table_line(BULLETIN)):
+                 call('read_kernel', kernel), 'write_cards 2268', cards_line(second.cards_of_table(BULLETIN)), 'vouch 1 2', 'vouch', '',
+                 table_line(BULLETIN)):
         yield from (line, beyond)
     for word in ('', 'x', '-1', '-0', '00', '+541', '0x21d', '541 ', '541\r', '0' * 40 + '541', str(2**32 - 1), str(2**32), '9' * 40):
         yield from (vouch_line(541), vouch_line(word), beyond)
@@ -1655,6 +2019,7 @@ SECTIONS = (
     ('Tables', tables),
     ('Blocks', blocks),
     ('Kernels', kernels),
+    ('Cards', cards),
     ('Texts wrong at each position', texts),
     ('Buffers', buffers),
     ('Doubles', doubles),

@@ -2,9 +2,9 @@
 """The second program of Mundreff: the same answers, found another way.
 
 It is written from the rules of docs/RULES.md, which say what Mundreff is to do
-with instants, clocks, leap tables, blocks, kernels, stamps and Julian dates, and
-not from the Rattle code or its proofs, so that an error has to be made twice to
-pass unseen.  Python 3, standard library only.  Each section below is a section
+with instants, clocks, leap tables, blocks, kernels, cards, stamps and Julian
+dates, and not from the Rattle code or its proofs, so that an error has to be made
+twice to pass unseen.  Python 3, standard library only.  Each section below is a section
 of the rules or a part of one; after them come the programs, and the comparison
 of Bulletin C with the machine's own lists.
 
@@ -34,11 +34,11 @@ from typing import NamedTuple
 # Numbers of the refusals
 
 (ROOM, SHAPE, YEAR, DATE, CLOCK, NOSECOND, RANGE,
- ASK, CUT, GROUPS, TABLE, TAIL, NUMBER, KERNEL) = range(1, 15)
+ ASK, CUT, GROUPS, TABLE, TAIL, NUMBER, KERNEL, CARD) = range(1, 16)
 
 
 class Refused(Exception):
-    """A call's refusal: its number, and the place while reading a block or a kernel."""
+    """A call's refusal: its number, and the place while reading a block, a kernel or cards."""
 
     def __init__(self, number, place=0):
         super().__init__(number, place)
@@ -326,10 +326,13 @@ BULLETIN_C = (  # (year, month, TAI-UTC from the first day of that month)
 )
 
 
+def table_of_entries(entries):
+    """Each a month and its offset; judged by whoever asks."""
+    return Table(len(entries), [month for month, _ in entries], [offset for _, offset in entries])
+
+
 def table_of_bulletin_c():
-    return Table(len(BULLETIN_C),
-                 [month_number(year, month) for year, month, _ in BULLETIN_C],
-                 [offset for _, _, offset in BULLETIN_C])
+    return table_of_entries([(month_number(year, month), offset) for year, month, offset in BULLETIN_C])
 
 
 # ---------------------------------------------------------------------------
@@ -661,7 +664,7 @@ def read_kernel(file):
     kernel.whole_file()
     if len(file) > MOST_KERNEL_BYTES:
         raise Refused(KERNEL, MOST_KERNEL_BYTES)
-    table = Table(len(kernel.pairs), [month for month, _ in kernel.pairs], [offset for _, offset in kernel.pairs])
+    table = table_of_entries(kernel.pairs)
     check_table(table)
     return table
 
@@ -678,6 +681,82 @@ def kernel_of_table(table):
 def write_kernel(table, room):
     check_table(table)
     return fit(kernel_of_table(table), room)
+
+
+# ---------------------------------------------------------------------------
+# The cards
+
+CARD_BYTES = 80
+LAST_MONTH_OF_CARDS = month_number(2049, 12)
+TDT_MINUS_TAI = Fraction('32.184')
+PLAIN_DECIMAL = re.compile(rb' *([+-]?(?:[0-9]+(?:\.[0-9]*)?|\.[0-9]+)) *')
+
+
+def card_date(month):
+    year, month_of_year = FIRST_YEAR + month // 12, month % 12 + 1
+    return b'%02d%03d000000.000' % (year % 100, day_of_year(year, month_of_year, 1))
+
+
+MONTH_OF_CARD_DATE = {card_date(month): month for month in range(LAST_MONTH_OF_CARDS + 1)}  # every date that a card may have
+
+
+def is_passed_over(line):
+    return not line.strip(b' ') or line.startswith((b'*', b'C', b'c'))
+
+
+def plain_decimal(field):
+    """The exact value, or None where the field is none."""
+    found = PLAIN_DECIMAL.fullmatch(field)
+    return Fraction(found[1].decode()) if found else None
+
+
+def is_blank_or_plain(field):
+    return not field.strip(b' ') or plain_decimal(field) is not None
+
+
+def entry_of_card(line):
+    """Month and TAI-UTC, or None where the line is no TP card."""
+    def columns(first, last):
+        return line[first - 1:last]
+    if len(line) != CARD_BYTES or columns(79, 80) != b'TP' or columns(1, 1) not in (b' ', b'1'):
+        return None
+    if not is_blank_or_plain(columns(17, 31)) or not is_blank_or_plain(columns(32, 46)):
+        return None
+    month, offset = MONTH_OF_CARD_DATE.get(columns(62, 76)), plain_decimal(columns(2, 16))
+    if month is None or offset is None or offset.denominator != 1 or plain_decimal(columns(47, 61)) != TDT_MINUS_TAI:
+        return None
+    return month, offset.numerator
+
+
+def rise_or_fall(months):
+    """All of them, strictly."""
+    rising = sorted(set(months))
+    return months in (rising, rising[::-1])
+
+
+def read_cards(file):
+    entries, place = [], 0
+    for line in file.split(b'\n'):  # behind a last line feed an empty line, which is passed over
+        if not is_passed_over(line):
+            entries.append(entry_of_card(line))
+            if entries[-1] is None or not rise_or_fall([month for month, _ in entries]):
+                raise Refused(CARD, place)
+        place += len(line) + 1
+    table = table_of_entries(sorted(entries))
+    check_table(table)
+    return table
+
+
+def cards_of_table(table):
+    return b''.join(b' %15s%30s%14s %s  TP\n' % (b'%d.0' % offset, b'', b'32.184', card_date(month))
+                    for month, offset in zip(table.used_months, table.offsets))
+
+
+def write_cards(table, room):
+    check_table(table)
+    if table.used_months[-1] > LAST_MONTH_OF_CARDS:
+        raise Refused(RANGE)
+    return fit(cards_of_table(table), room)
 
 
 # ---------------------------------------------------------------------------
@@ -825,7 +904,7 @@ def program_ticks(descriptor, output):
 # The program `calls`: every public call, one to a line
 
 LONGEST_LINE = 140_000
-MOST_ROOM = 4_096
+MOST_ROOM = 8_192
 BEFORE_THE_CALL = b'\xa5'  # each byte of a lent buffer
 
 
@@ -912,6 +991,10 @@ def answer_read_kernel(_, file):
     return answer_of_reader(read_kernel, file)
 
 
+def answer_read_cards(_, file):
+    return answer_of_reader(read_cards, file)
+
+
 def words_of_written(number, result, room):
     buffer = result + BEFORE_THE_CALL * (room - len(result))
     return words_of(number, len(result), buffer.hex() or '-')
@@ -930,6 +1013,10 @@ def answer_write_block(table, room):
 
 def answer_write_kernel(table, room):
     return answer_of_writer(write_kernel, table, room)
+
+
+def answer_write_cards(table, room):
+    return answer_of_writer(write_cards, table, room)
 
 
 def answer_write_text(table, instant, picture, scale, digits, room):
@@ -1001,6 +1088,8 @@ CALLS = {  # each with the types of its words
     b'write_block': (answer_write_block, (ROOM_OF_BUFFER,)),
     b'read_kernel': (answer_read_kernel, (HEX_BYTES,)),
     b'write_kernel': (answer_write_kernel, (ROOM_OF_BUFFER,)),
+    b'read_cards': (answer_read_cards, (HEX_BYTES,)),
+    b'write_cards': (answer_write_cards, (ROOM_OF_BUFFER,)),
     b'instant_of': (answer_instant_of, (U32,) * 8),
     b'stamp_of': (answer_stamp_of, (I64, U32)),
     b'read_text': (answer_read_text, (U32, HEX_BYTES)),

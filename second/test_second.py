@@ -71,6 +71,18 @@ def expect_kernel_fault(file, place):
     expect_kernel(file, f'14 {place} 0 0')
 
 
+def cards_call(file):
+    return 'read_cards ' + (file.hex() or '-')
+
+
+def expect_cards(file, answer):
+    expect(cards_call(file), answer)
+
+
+def expect_card_fault(file, place):
+    expect_cards(file, f'15 {place} 0 0')
+
+
 def expect_written(instant, picture, scale, digits, text):
     expect(f'write_text {instant} {picture} {scale} {digits} {len(text)}', f'0 {len(text)} {text.encode().hex()}')
 
@@ -277,6 +289,166 @@ def test_written_kernels():
 
 
 # ---------------------------------------------------------------------------
+# The cards
+
+FIRST = b'            10.0                                      32.184 72001000000.000  TP'
+JULY = b'            11.0                                      32.184 72183000000.000  TP'
+NEXT = b'            12.0                                      32.184 73001000000.000  TP'
+TWO_ENTRIES = '0 0 2 2 0 10 6 11'
+
+
+def in_columns(line, first, field):
+    """The card with this field from a column on, counted from 1."""
+    assert len(line) == 80 and first + len(field) <= 81
+    return line[:first - 1] + field + line[first - 1 + len(field):]
+
+
+def second_card(first, field):
+    return FIRST + b'\n' + in_columns(JULY, first, field) + b'\n'
+
+
+def test_cards_are_written_at_their_columns():
+    one, down = FIRST + b'\n', b'             9.0                                      32.184 49335000000.000  TP\n'
+    assert len(one) == len(down) == 81 and one[12:16] == b'10.0' and one[54:60] == b'32.184' and one[61:66] == b'72001'
+    expect('write_cards 81', f'0 81 {one.hex()}', 'table 1 1 0 10')
+    expect('write_cards 83', f'0 81 {one.hex()}a5a5', 'table 1 1 0 10')
+    expect('write_cards 80', '1 0 ' + 'a5' * 80, 'table 1 1 0 10')
+    expect('write_cards 0', '1 0 -', 'table 1 1 0 10')
+    expect('write_cards 162', f'0 162 {(one + down).hex()}', 'table 2 2 0 10 935 9')
+    expect('write_cards 2', '7 0 a5a5', 'table 2 2 0 10 936 9')
+    expect('write_cards 0', '7 0 -', 'table 2 2 0 10 96335 11')
+    expect('write_cards 2', '11 0 a5a5', 'table 2 2 0 10 936 8')
+    expect('write_cards 0', '11 0 -', 'table 0 0')
+    most = answers('table 64 64 ' + ' '.join(f'{month} {10 - month}' for month in range(64)), 'write_cards 5184')[1]
+    last = b'           -53.0                                      32.184 77091000000.000  TP\n'
+    assert most.startswith('0 5184 ') and most.endswith(last.hex())
+    written = bytes.fromhex(answers('write_cards 2268')[0].removeprefix('0 2268 '))
+    lines = written.splitlines()
+    assert lines[:3] == [FIRST, JULY, NEXT] and len(lines) == 28 and set(map(len, lines)) == {80}
+    assert written.endswith(b'            37.0                                      32.184 17001000000.000  TP\n')
+    expect_cards(written, B_WORDS)
+    sizes = [len(second.write_cards(table, 8_192)) for _, table in generate.good_tables() if table.used_months[-1] <= 935]
+    assert (min(sizes), max(sizes)) == (81, 5_184)
+
+
+def test_order_of_cards():
+    expect_cards(b'\n'.join((FIRST, JULY, NEXT)), '0 0 3 3 0 10 6 11 12 12')
+    expect_cards(b'\n'.join((NEXT, JULY, FIRST)), '0 0 3 3 0 10 6 11 12 12')
+    for cards, place in (((FIRST, FIRST), 81), ((FIRST, JULY, FIRST), 162), ((FIRST, JULY, JULY), 162), ((JULY, FIRST, NEXT), 162),
+                         ((NEXT, FIRST, JULY), 162), ((FIRST, NEXT, JULY), 162), ((NEXT, JULY, JULY, FIRST), 162), ((NEXT, NEXT, b'x'), 81),
+                         ((FIRST, JULY, NEXT, JULY), 243), ((FIRST, JULY, NEXT, NEXT), 243), ((NEXT, JULY, FIRST, JULY), 243)):
+        expect_card_fault(b'\n'.join(cards) + b'\n', place)
+        expect_card_fault(b'* a comment\n\n' + b'\n'.join(cards), 13 + place)
+    for cards in ((JULY,), (JULY, NEXT), (NEXT, JULY), (FIRST, NEXT), (in_columns(FIRST, 13, b'11.0'),),
+                  (FIRST, in_columns(JULY, 13, b'10.0')), (in_columns(FIRST, 13, b'11.0'), in_columns(JULY, 13, b'10.0'))):
+        expect_cards(b'\n'.join(cards), '11 0 0 0')
+
+
+def test_number_of_cards():
+    def some(count, step=1):
+        return [in_columns(in_columns(FIRST, 12, b'%3d.0' % (10 + step * i)), 62, b'%02d001' % ((72 + i) % 100)) for i in range(count)]
+    for count in (64, 65, 66, 78):
+        for lines in (some(count), some(count)[::-1], some(count, -1)):
+            answer = answers(cards_call(b'\n'.join(lines)))[0]
+            assert answer.startswith('0 0 64 64 0 10 12 ' if count == 64 else '11 0 0 0'), answer
+            expect_card_fault(b'\n'.join([*lines, b'x']), 81 * count)
+            expect_card_fault(b'\n'.join([*lines, lines[-1]]), 81 * count)
+    months = [FIRST[:61] + second.card_date(month) + FIRST[76:] for month in range(864)]
+    assert len('read_cards ') + 2 * 864 * 81 < 140_000 and len(set(months)) == 864
+    expect_cards(b'\n'.join(months) + b'\n', '11 0 0 0')
+    expect_card_fault(b'\n'.join(months[:-1]) + b'\n' + months[0] + b'\n', 81 * 863)
+    for none in (b'', b'\n', b'\n\n', b' ', b' ' * 80, b'*', b'C' + FIRST[1:], b'c\n \n'):
+        expect_cards(none, '11 0 0 0')
+
+
+def test_lines_of_cards():
+    """What is passed over, of any length, and what is bad: each between two cards and behind them."""
+    passed = (b'', b' ', b' ' * 79, b' ' * 80, b' ' * 81, b' ' * 5_000, b'*', b'C', b'c', b'*\r', b'Comment', b'c\xff\x00', b'*' * 5_000,
+              b'*' + JULY[1:], b'C' + JULY[1:])
+    for line in passed:
+        expect_cards(FIRST + b'\n' + line + b'\n' + JULY + b'\n' + line, TWO_ENTRIES)
+    bad = (b'\r', b'\t', b'\x00', b'x', b' *', b'TP', b' ' * 78 + b'TP', JULY[:-1], JULY[1:], JULY + b' ', JULY + b'\r', b' ' + JULY,
+           JULY + JULY, JULY.lower(), in_columns(JULY, 79, b'ZP'), in_columns(JULY, 79, b'tp'), in_columns(JULY, 79, b' P'),
+           in_columns(JULY, 80, b' '), in_columns(JULY, 1, b'0'), in_columns(JULY, 1, b'2'), in_columns(JULY, 1, b'\t'),
+           in_columns(JULY, 1, b'\xa0'), b' ' * 80 + b'\r')
+    for line in bad:
+        expect_card_fault(FIRST + b'\n' + line + b'\n' + JULY + b'\n', 81)
+        expect_card_fault(FIRST + b'\n' + JULY + b'\n' + line, 162)
+        expect_card_fault(b'* x\n' + line + b'\nx', 4)
+    for first, field in ((1, b'1'), (77, b'XY'), (77, b'\x00\xff'), (77, b'TP')):
+        expect_cards(second_card(first, field), TWO_ENTRIES)
+    expect_cards(b'\n'.join((b'', FIRST, b'', JULY)), TWO_ENTRIES)
+    expect_card_fault(b'\r\n'.join((FIRST, JULY)), 0)
+    expect_card_fault(b'\n' + FIRST + b'\n\n  \n' + JULY[:79] + b'\n' + b'x', 86)
+
+
+def test_fields_of_cards():
+    for tai in (b'             11', b'            11.', b'11             ', b'   +11.000     ', b'000000000000011', b'+11.00000000000',
+                b'11.000000000000'):
+        expect_cards(second_card(2, tai), TWO_ENTRIES)
+    for tai in (b'             12', b'            -11', b'             -0', b'             .0', b'999999999999999', b'-99999999999999',
+                b'4294967307     ', b'100000000000011', b'            23.'):
+        expect_cards(second_card(2, tai), '11 0 0 0')
+    for tai in (b'', b'.', b'+', b'-.', b'11.5', b'1 1', b'+ 11', b'--11', b'1e1', b'11D0', b'11..', b'1.1.', b'11,0', b'\t11', b'11\x00',
+                b'\xb911', b'11.00000000001', b'10.999999999999', b'0x0B', b'1_1', b'11+', b'11 0'):
+        expect_card_fault(second_card(2, tai.rjust(15)), 81)
+        expect_card_fault(second_card(2, tai.ljust(15)), 81)
+    for tdt in (b'         32.184', b'32.1840        ', b'+32.184        ', b'32.184000000000', b'00000000032.184'):
+        expect_cards(second_card(47, tdt), TWO_ENTRIES)
+    for tdt in (b'', b'32.18', b'32.184.', b'.32184', b'-32.184', b'32.1841', b'32.18400000001', b'32.183999999999', b'32', b'3.2184e1',
+                b'32 .184', b'+ 32.184', b'32.184x', b'4294999.480', b'321.84'):
+        expect_card_fault(second_card(47, tdt.rjust(15)), 81)
+    for first in (17, 32):
+        for ut1 in (b'0', b'-0.92429', b'+.5', b'5.', b'123456789012345'):
+            expect_cards(second_card(first, ut1.rjust(15)), TWO_ENTRIES)
+            expect_cards(second_card(first, ut1.ljust(15)), TWO_ENTRIES)
+        for ut1 in (b'.', b'-', b'1E0', b'1.2.3', b'1 2', b'\t', b'- 1', b'x', b'\xb2'):
+            expect_card_fault(second_card(first, ut1.rjust(15)), 81)
+    expect_cards(second_card(31, b'12'), TWO_ENTRIES)
+    expect_card_fault(second_card(31, b' .'), 81)
+    expect_card_fault(second_card(46, b'1-'), 81)
+    zero = b'\n'.join(in_columns(in_columns(FIRST, 12, b'%3d.0' % (10 - i)), 62, b'%02d001' % (72 + i)) for i in range(11))
+    for tai in (b'  0.0', b'   -0', b' -.00', b'   .0'):
+        assert answers(cards_call(zero[:-80] + in_columns(zero[-80:], 12, tai)))[0].endswith(' 108 1 120 0')
+
+
+def test_dates_of_cards():
+    for date, month in ((b'72032', 1), (b'72061', 2), (b'73060', 14), (b'73091', 15), (b'76092', 51), (b'99335', 335), (b'00001', 336),
+                        (b'00061', 338), (b'00336', 347), (b'01060', 350), (b'49001', 924), (b'49335', 935), (b'48336', 923)):
+        expect_cards(second_card(62, date), f'0 0 2 2 0 10 {month} 11')
+    for date in (b'72000', b'72002', b'72031', b'72060', b'73061', b'73366', b'72366', b'72367', b'72999', b'72182', b'83181', b'85181',
+                 b'50001', b'71001', b'71335', b'00060', b'49336', b'01061', b'72 32', b' 2032', b'7203 ', b'72+32'):
+        expect_card_fault(second_card(62, date), 81)
+    for rest in (b'000001.000', b'010000.000', b'240000.000', b'000000.001', b'000000 000', b'000000.00 ', b' 00000.000', b'      .   ',
+                 b'0000000000', b'000000,000'):
+        expect_card_fault(second_card(67, rest), 81)
+    for year, answer in ((b'72', '0 0 1 1 0 10'), (b'71', '15 0 0 0'), (b'50', '15 0 0 0'), (b'49', '11 0 0 0'), (b'00', '11 0 0 0'),
+                         (b'99', '11 0 0 0')):
+        expect_cards(in_columns(FIRST, 62, year), answer)
+    first_days = [datetime.date(year, month, 1) for year in range(1972, 2050) for month in range(1, 13)]
+    assert [second.card_date(month) for month in range(936)] == [day.strftime('%y%j000000.000').encode() for day in first_days]
+    for lines, answer in ((generate.SOURCE_CARDS, '15 0 0 0'), (generate.SOURCE_CARDS[1:], '15 0 0 0'),
+                          (generate.SOURCE_CARDS[2:], '15 0 0 0'), (generate.SOURCE_CARDS[3:], ONE_ENTRY),
+                          (generate.SOURCE_CARDS[:1:-1], '15 81 0 0')):
+        expect_cards(b'\n'.join(lines), answer)
+
+
+def test_random_cards():
+    """Each kind of answer, often; what is written reads back, also the other way round; lines are not too long."""
+    dice, found = generate.Dice(5), {}
+    for _ in range(2_000):
+        line = generate.cards_line(generate.random_cards(dice, generate.BULLETIN))
+        number = answers(line)[0].split()[0]
+        found[number] = found.get(number, 0) + 1
+        assert len(line) < 140_000
+    assert set(found) == {'0', '11', '15'} and min(found.values()) > 80, found
+    for _ in range(200):
+        table = generate.random_table_of_cards(dice, generate.BULLETIN)
+        written = second.write_cards(table.vouched_to(dice.pick((0, 936, 96_336))), 8_192)
+        assert second.read_cards(written).__dict__ == second.read_cards(b'\n'.join(written.splitlines()[::-1])).__dict__ == table.__dict__
+
+
+# ---------------------------------------------------------------------------
 # The vouched month
 
 def expect_vouched(number, table, *lines_and_answers):
@@ -358,7 +530,7 @@ def test_refusals_with_a_vouched_month():
     for number in (1, 12, 96_337, 4_294_967_295):
         expect_vouched(
             number, T_LINE, ('start', '11 0 0 0 0 0 0 0'), ('tick 0 0 0 0 0 0', '11 0 0 0 0 0 0 0'), ('write_block 2', '11 0 a5a5'),
-            ('write_kernel 2', '11 0 a5a5'), ('instant_of 3 0 0 0 99 99 99 1000000', '11 0 0'),
+            ('write_kernel 2', '11 0 a5a5'), ('write_cards 2', '11 0 a5a5'), ('instant_of 3 0 0 0 99 99 99 1000000', '11 0 0'),
             ('instant_of 4 0 0 0 99 99 99 1000000', '8 0 0'), (text_call(TAI, ''), '11 0 0 0 0 0 0 0 0 0 0'),
             (text_call(4, ''), '8 0 0 0 0 0 0 0 0 0 0'), ('write_text 0 0 1 0 1', '11 0 a5 0'), ('write_text 0 3 1 0 1', '8 0 a5 0'),
             ('write_julian 0 2', '11 0000000000000000 0000000000000000 0'), ('read_julian 1 7ff8000000000000 7ff8000000000000', '11 0 0'),
@@ -383,9 +555,9 @@ def test_number_in_force():
     assert answers('vouch 540', beyond, 'vouch 541', beyond, 'vouch 0', beyond) == ['ok', '11 0 0 0 0 0 0 0', 'ok', marked, 'ok', plain]
     assert answers('vouch 0000541', beyond, 'vouch -0', beyond) == ['ok', marked, 'ok', plain]
     for line in ('vouch', 'vouch x', 'vouch 1 2', 'vouch 4294967296', 'table 1 1 0', 'read_block 01', 'read_block 00', 'write_block 0',
-                 'write_kernel 1', kernel_call(H + G)):
+                 'write_kernel 1', kernel_call(H + G), 'write_cards 1', cards_call(FIRST)):
         assert answers('vouch 541', line, beyond)[-1] == marked, line
-    for writer in ('write_block 29', 'write_kernel 1032'):
+    for writer in ('write_block 29', 'write_kernel 1032', 'write_cards 2268'):
         assert answers('vouch 541', writer, 'vouch 0', writer)[1::2] == answers(writer) * 2
 
 
@@ -628,9 +800,10 @@ def test_lines():
     for line in ('start ', ' start', 'start\r', 'START', 'start 0', 'stamp_of 0', 'stamp_of  0 1', 'stamp_of 0 1 1', 'stamp_of 0\t1',
                  '# start', 'stamp_of +0 1', 'stamp_of 0x0 1', 'stamp_of - 1', 'stamp_of --1 1', 'stamp_of 1_0 1',
                  'stamp_of 9223372036854775808 1', 'stamp_of -9223372036854775809 1', 'stamp_of 0 4294967296', 'stamp_of 0 -1',
-                 'read_block 0', 'read_block 0g', 'read_block', 'read_block 01 02', 'read_block --', 'write_block 4097', 'write_block -1',
-                 'write_text 0 0 0 0 4097', 'read_julian 1 - -', 'read_kernel', 'read_kernel 5', 'read_kernel 5g', 'read_kernel 5c 5c',
-                 'write_kernel', 'write_kernel 4097', 'write_kernel -1', 'read_julian 1 3fe000000000000 3fe0000000000000',
+                 'read_block 0', 'read_block 0g', 'read_block', 'read_block 01 02', 'read_block --', 'write_block 8193', 'write_block -1',
+                 'write_text 0 0 0 0 8193', 'read_julian 1 - -', 'read_kernel', 'read_kernel 5', 'read_kernel 5g', 'read_kernel 5c 5c',
+                 'write_kernel', 'write_kernel 8193', 'write_kernel -1', 'read_cards', 'read_cards 2', 'read_cards 2g', 'read_cards 2a 2a',
+                 'write_cards', 'write_cards 8193', 'write_cards -1', 'read_julian 1 3fe000000000000 3fe0000000000000',
                  'read_julian 1 03fe0000000000000 3fe0000000000000', 'table', 'table 1', 'table 1 1 0', 'table 1 1 0 10 6',
                  'table 1 65' + ' 0 0' * 65, 'table 18446744073709551616 0', 'table 1 1 4294967296 10', 'table 1 1 0 2147483648',
                  'table 1 1 0 -2147483649', 'table -1 0', 'stamp_of 1\u00b2 1', 'vouch', 'vouch ', 'vouch x', 'vouch 1 2', 'vouch -1',
@@ -640,8 +813,11 @@ def test_lines():
     expect('tick 1972 1 1 0 0 -0', '0 1972 1 1 0 0 1')
     expect('read_julian 1 4142B42C40000000 3fE0000000000000', '0 0')
     expect('write_block 0', '1 0 -')
-    expect('write_block 4096', '0 1 01' + 'a5' * 4_095, 'table 1 1 0 10')
-    expect('write_text 0 1 1 0 4096', '0 17 ' + b'2000-001T12:00:00'.hex() + 'a5' * 4_079)
+    for writer in ('write_block', 'write_kernel', 'write_cards', 'write_text 0 1 1 0'):
+        for room in (4_097, 8_192):
+            assert len(answers(f'{writer} {room}')[0].split()[2]) == 2 * room
+    expect('write_block 8192', '0 1 01' + 'a5' * 8_191, 'table 1 1 0 10')
+    expect('write_text 0 1 1 0 8192', '0 17 ' + b'2000-001T12:00:00'.hex() + 'a5' * 8_175)
     for table in ('table 1 1 0 -2147483648', 'table 1 1 4294967295 2147483647', 'table 18446744073709551615 0'):
         expect('start', '11 0 0 0 0 0 0', table)
 
@@ -659,12 +835,13 @@ def test_long_lines():
     assert answers('stamp_of ' + '9' * 139_989 + ' 1') == ['?'] and answers('stamp_of -' + '0' * 139_988 + ' 1')[0].startswith('0 1 2000 ')
     assert answers('read_text 0 ' + '3' * 139_988)[0].startswith('2 ')
     assert answers('read_kernel ' + '33' * 69_994) == ['14 65536 0 0']
+    assert answers('read_cards ' + '2a' * 69_994) == ['11 0 0 0'] and answers('read_cards ' + '20' * 69_993 + '33') == ['15 0 0 0']
 
 
 # ---------------------------------------------------------------------------
 # The program `desk`
 
-KERNEL_FILE = os.path.join(HERE, '..', 'examples', 'leapseconds.tls')
+KERNEL_FILE, CARDS_FILE = (os.path.join(HERE, '..', 'examples', name) for name in ('leapseconds.tls', 'leapseconds.tp'))
 B_BLOCK = 'table block 1c0c0c18181818181818241818303c3018241818242424a80148544824'
 BEYOND = ', beyond the month that the table is vouched for'
 NIGHT = 'UTC 2016-12-31T23:58:30', 'UTC 2017-01-01T00:01:30'
@@ -708,6 +885,7 @@ def test_examples_of_the_desk():
     entries = desk_answers('table')
     assert entries == [f'{year}-{month:02}-01 {offset} s' for year, month, offset in second.BULLETIN_C] and len(entries) == 28
     expect_desk('table kernel ' + KERNEL_FILE, '28 entries, the last 2017-01-01 with 37 s, no month vouched for', 'table block 01')
+    expect_desk('table cards ' + CARDS_FILE, '28 entries, the last 2017-01-01 with 37 s, no month vouched for', 'table block 01')
     expect_desk(B_BLOCK, '28 entries, the last 2017-01-01 with 37 s, no month vouched for', 'vouched 2026-12')
     expect_desk('vouched 2026-12', '28 entries, the last 2017-01-01 with 37 s, vouched to December 2026')
     expect_desk('why 6', '6 NOSECOND: UTC has no such second under the table in force. What to do: Check the stamp; if it is right then'
@@ -718,11 +896,11 @@ def test_words_of_the_desk_are_those_of_its_page():
     with open(os.path.join(HERE, '..', 'docs', 'DESK.md'), encoding='utf-8') as file:
         page = file.read()
     rows = re.findall(r'^\| (\d+) \| ([A-Z]+) \| (.*?) \| (.*?) \|$', page, re.MULTILINE)
-    refusals, of_their_own = rows[:14], rows[14:]
+    refusals, of_their_own = rows[:15], rows[15:]
     for number, (row, name, sentence, advice) in enumerate(refusals, 1):
         assert row == str(number)
         expect_desk(f'why {number}', f'{number} {name}: {sentence} What to do: {advice}')
-    own = (desk.LONG_LINE, desk.NO_SECONDS, desk.NO_NAME, desk.NO_MONTH, desk.NO_REFUSAL, desk.NO_HEX, desk.NO_FILE)
+    own = (desk.LONG_LINE, desk.NO_SECONDS, desk.NO_NAME, desk.NO_MONTH, desk.NO_REFUSAL, desk.NO_HEX, desk.NO_FILE, desk.NO_FILE)
     assert [row[2] for row in of_their_own] == [sentence.decode() for sentence in own]
     assert all(',' not in row[2] for row in rows)
     assert '## Help\n\n```\n' + '\n'.join(desk_answers('help')) + '\n```\n' in page
@@ -825,7 +1003,7 @@ def test_tables_of_the_desk():
         expect_desk_refusal('table block ' + block, number, f'{block} at byte {place}')
     for block in ('0', '0g', '03 0C', '01\r', 'zz'):
         expect_desk_refusal('table block ' + block, 8, block.replace('\r', '?'), sentence=desk.NO_HEX)
-    for line in ('table block', 'table kernel', 'table ', 'table x', 'tables', 'Table'):
+    for line in ('table block', 'table kernel', 'table cards', 'table card x', 'table ', 'table x', 'tables', 'Table'):
         expect_desk_refusal(line, 8, line)
 
 
@@ -839,11 +1017,17 @@ def test_refused_tables_leave_none():
             with open(path, 'wb') as output:
                 output.write(file)
             expect_desk_refusal(after, 11, after[6:], 'table kernel ' + path)
+        for number, file in enumerate((b'', b'x', JULY, FIRST + b'\r', FIRST.ljust(65_537))):
+            path = os.path.join(folder, f'cards {number}')
+            with open(path, 'wb') as output:
+                output.write(file)
+            expect_desk_refusal(after, 11, after[6:], 'table cards ' + path)
         for none in (folder, folder + '/none', '', folder + '/0/x', folder + '/\x00'):
-            expect_desk_refusal(after, 11, after[6:], 'table kernel ' + none)
-    for other in ('table block', 'table kernel', 'table x', 'Table block 0', 'vouched 1972-06', 'vouched 1972-6', 'vouched', 'hello',
-                  'why 0', 'after UTC x', 'after x', 'add x to y', 'show UTC 1972-01-01T00:00:00 on x', 'pass , from x to y',
-                  'x' * 1_025, 'table block ' + '0' * 1_013, 'table kernel ' + 'x' * 1_012):
+            for words in ('table kernel ', 'table cards '):
+                expect_desk_refusal(after, 11, after[6:], words + none)
+    for other in ('table block', 'table kernel', 'table cards', 'table x', 'Table block 0', 'vouched 1972-06', 'vouched 1972-6', 'vouched',
+                  'hello', 'why 0', 'after UTC x', 'after x', 'add x to y', 'show UTC 1972-01-01T00:00:00 on x', 'pass , from x to y',
+                  'x' * 1_025, 'table block ' + '0' * 1_013, 'table kernel ' + 'x' * 1_012, 'table cards ' + 'x' * 1_013):
         expect_desk(after, 'UTC 1972-08-01T00:00:00' + BEYOND, 'table block 020d', 'vouched 1972-07', other)
 
 
@@ -878,10 +1062,11 @@ def test_lines_without_a_table():
 
 
 def test_tables_behind_none():
-    lost = 'vouched 2026-12', 'table block 0', 'vouched 2026-12', 'after ' + NIGHT[0], 'table', 'hello', 'table kernel .'
+    lost = 'vouched 2026-12', 'table block 0', 'vouched 2026-12', 'after ' + NIGHT[0], 'table', 'hello', 'table kernel .', 'table cards .'
     expect_desk('table block 01', '1 entry, the last 1972-01-01 with 10 s, no month vouched for', *lost)
     expect_desk(B_BLOCK, '28 entries, the last 2017-01-01 with 37 s, no month vouched for', *lost)
-    expect_desk('table kernel ' + KERNEL_FILE, '28 entries, the last 2017-01-01 with 37 s, no month vouched for', *lost)
+    for file in ('kernel ' + KERNEL_FILE, 'cards ' + CARDS_FILE):
+        expect_desk('table ' + file, '28 entries, the last 2017-01-01 with 37 s, no month vouched for', *lost)
     expect_desk('after UTC 2016-12-31T23:59:59', 'UTC 2017-01-01T00:00:00', *lost, 'table block 01')
     expect_desk('after UTC 2027-01-01T00:00:00', 'UTC 2027-01-01T00:00:01', *lost, B_BLOCK)
     expect_desk('vouched 2026-12', '1 entry, the last 1972-01-01 with 10 s, vouched to December 2026', *lost, 'table block 01')
@@ -901,7 +1086,19 @@ def test_files_of_the_desk():
                                     ((H + G).ljust(65_537), 14, 65_536), ((H + G).ljust(70_000), 14, 65_536)):
             expect_desk_refusal('table kernel ' + path_of('a\tb', file), number, f'{folder}/a?b at byte {place}')
         for none in (folder, folder + '/none', '', path + '/x', path + ' ', path + '\x00', folder + '/' + 'n' * 300):
-            expect_desk_refusal('table kernel ' + none, 14, none.replace('\x00', '?').replace('\x7f', '?'), sentence=desk.NO_FILE)
+            for words, number in (('table kernel ', 14), ('table cards ', 15)):
+                expect_desk_refusal(words + none, number, none.replace('\x00', '?').replace('\x7f', '?'), sentence=desk.NO_FILE)
+        full = FIRST + b'\n' + b' ' * (65_536 - 81)
+        for file in (FIRST, FIRST + b'\n', b'* x\n\n' + FIRST, full, FIRST + b'\n' + b'*' * (65_536 - 81)):
+            expect_desk('table cards ' + path_of('good', file), '1 entry, the last 1972-01-01 with 10 s, no month vouched for')
+        for file, number, place in ((b'', 11, 0), (b'* x\n', 11, 0), (JULY, 11, 0), (FIRST + b'\n' + JULY[:79], 15, 81),
+                                    (FIRST + b'\n*\n' + FIRST, 15, 83), (H + G, 15, 0), (b'x' + full[1:], 15, 0)):
+            expect_desk_refusal('table cards ' + path_of('a\tb', file), number, f'{folder}/a?b at byte {place}')
+        for file in (full + b' ', full + b'\n', b'x' + full, b'x'.ljust(70_000)):
+            expect_desk_refusal('table cards ' + path_of('long', file), 15, folder + '/long', sentence=desk.LONG_FILE)
+        with open(CARDS_FILE, 'rb') as file:
+            comment, written = file.read().split(b'\n', 1)
+        assert comment.startswith(b'*') and written == second.write_cards(second.table_of_bulletin_c(), 2_268)
 
 
 def test_vouched_months_of_the_desk():
@@ -929,7 +1126,7 @@ def test_vouched_months_of_the_desk():
 
 
 def test_lines_of_the_desk():
-    for number in ('', '0', '15', '00', '6 ', '-6', 'six', '18446744073709551622'):
+    for number in ('', '0', '16', '00', '6 ', '-6', 'six', '18446744073709551622'):
         expect_desk_refusal('why ' + number, 8, number, sentence=desk.NO_REFUSAL)
     for line in (' ', 'hello, "desk"', 'Help', 'help ', 'why', 'between', 'pass', 'after', 'show\tUTC'):
         expect_desk_refusal(line, 8, line.replace('\t', '?'))
@@ -956,11 +1153,11 @@ def test_words_behind_the_name_are_a_line():
     assert one_line('') == b'\n'
 
 
-def answered_beside_kernels(lines):
-    """Each line with the table that it meets and its answer, in a folder with the kernels that the lines name."""
+def answered_beside_files(lines):
+    """Each line with the table that it meets and its answer, in a folder with the files that the lines name."""
     here = os.getcwd()
     with tempfile.TemporaryDirectory() as folder:
-        desk_lines.lay_out_kernels(folder)
+        desk_lines.lay_out_files(folder)
         os.chdir(folder)
         try:
             return list(desk.answered(line.encode('latin-1') for line in lines))
@@ -971,12 +1168,13 @@ def answered_beside_kernels(lines):
 def test_inputs_of_desk_and_ticks():
     """Each kind of answer is found, some without a table; about three quarters are good; the lines are the same each time."""
     stored = list(desk_lines.stored_lines())
-    assert len(stored) > 200 and all(map(generate.is_plain, stored)) and 'table kernel leapseconds.tls' in stored
+    assert len(stored) > 200 and all(map(generate.is_plain, stored))
+    assert {'table kernel leapseconds.tls', 'table cards leapseconds.tp'} <= set(stored)
     for lines in (stored, list(desk_lines.random_lines(1, 24_000))):
         assert all('\n' not in line for line in lines)
-        answered = answered_beside_kernels(lines)
+        answered = answered_beside_files(lines)
         found = '\n'.join(given.text.decode('latin-1') for _, _, given in answered)
-        assert set(re.findall('^refused ([0-9]+) ', found, re.MULTILINE)) == set(map(str, (*range(2, 13), 14)))
+        assert set(re.findall('^refused ([0-9]+) ', found, re.MULTILINE)) == set(map(str, (*range(2, 13), 14, 15)))
         for words in (desk.LONG_LINE, desk.NO_SECONDS, desk.NO_NAME, desk.NO_MONTH, desk.NO_REFUSAL, desk.NO_HEX, desk.NO_FILE):
             assert words.decode() in found, words
         for words in ('1 second added', '2 seconds added', '1 second taken out', '2 seconds taken out', 'no second added',
@@ -986,7 +1184,8 @@ def test_inputs_of_desk_and_ticks():
             behind = desk_lines.table_behind(table, line.decode('latin-1'))
             assert second.block_of_table(behind) == second.block_of_table(given.table), line
         without = [line for line, table, _ in answered if not table.is_good]
-        for words in (b'between ', b'show ', b'after ', b'add ', b'pass ', b'vouched ', b'table block ', b'table kernel ', b'why '):
+        for words in (b'between ', b'show ', b'after ', b'add ', b'pass ', b'vouched ', b'table block ', b'table kernel ', b'table cards ',
+                      b'why '):
             assert any(line.startswith(words) for line in without), words
         assert {b'', b'table', b'help'} <= set(without)
     assert 0.7 < sum(given.is_good for _, _, given in answered) / len(answered) < 0.8 and 0.01 < len(without) / len(answered) < 0.1
@@ -1005,7 +1204,8 @@ def test_comparison_in_a_folder_with_blanks():
         folder = os.path.join(top, 'second')
         shutil.copytree(HERE, folder, ignore=shutil.ignore_patterns('__pycache__'))
         os.mkdir(os.path.join(top, 'examples'))
-        shutil.copy(KERNEL_FILE, os.path.join(top, 'examples'))
+        for file in (KERNEL_FILE, CARDS_FILE):
+            shutil.copy(file, os.path.join(top, 'examples'))
 
         def compare(words, command=''):
             commands = {'MUNDREFF_' + program: command for program in ('CALLS', 'DESK', 'TICKS')}
@@ -1156,10 +1356,10 @@ def test_bulletin_can_disagree():
 
 def test_stored_input():
     lines = list(generate.stored_lines())
-    assert 15_000 < len(lines) < 20_000 and all('\n' not in line for line in lines)
+    assert 20_000 < len(lines) < 25_000 and all('\n' not in line for line in lines)
     assert lines == list(generate.stored_lines())
     found = {answer.split()[0] for answer in answers(*lines)}
-    assert found == {'ok', '?', *map(str, range(15))}, found
+    assert found == {'ok', '?', *map(str, range(16))}, found
 
 
 def main():

@@ -9,7 +9,7 @@ use lib.ListN.{getD}
 use Rattle.laws.proofs.Branches.{cond-yes, cond-rest}
 use Rattle.laws.proofs.Cases.{both, join}
 use Rattle.answer.specs.declared.Refusal.{Refusal}
-use Rattle.answer.specs.declared.Refusal.the-variants.{Room, Shape, Year, Date, Clock, NoSecond, Range, Ask, Cut, Groups, Table, Tail, Number, Kernel}
+use Rattle.answer.specs.declared.Refusal.the-variants.{Room, Shape, Year, Date, Clock, NoSecond, Range, Ask, Cut, Groups, Table, Tail, Number, Kernel, Card}
 use Rattle.answer.specs.Refusals.{number, refusing, allPass}
 
 pub refused : {A : Type 0} {b : Bool} (why y : A) → b ≡ false → why ≡ cond b y why
@@ -69,10 +69,11 @@ number-some Table e = omega arith
 number-some Tail e = omega arith
 number-some Number e = omega arith
 number-some Kernel e = omega arith
+number-some Card e = omega arith
 
 -- the refusal of a number
 named : ℕ → Refusal
-named n = getD (Room ∷ Room ∷ Shape ∷ Year ∷ Date ∷ Clock ∷ NoSecond ∷ Range ∷ Ask ∷ Cut ∷ Groups ∷ Table ∷ Tail ∷ Number ∷ Kernel ∷ []) n Room
+named n = getD (Room ∷ Room ∷ Shape ∷ Year ∷ Date ∷ Clock ∷ NoSecond ∷ Range ∷ Ask ∷ Cut ∷ Groups ∷ Table ∷ Tail ∷ Number ∷ Kernel ∷ Card ∷ []) n Room
 
 named-back : (why : Refusal) → named (number why) ≡ why
 unfolding named
@@ -90,6 +91,7 @@ named-back Table = refl
 named-back Tail = refl
 named-back Number = refl
 named-back Kernel = refl
+named-back Card = refl
 
 -- no two refusals share a number
 pub numbers-differ : (why other : Refusal) → number why ≡ number other → why ≡ other

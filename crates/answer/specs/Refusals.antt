@@ -4,7 +4,7 @@ use mathlib.Core.Bool.{Bool, true, cond, _&&_}
 use mathlib.Core.List.{List, [], _∷_}
 use Prim.Native.Nat.{ℕ}
 use Rattle.answer.specs.declared.Refusal.{Refusal}
-use Rattle.answer.specs.declared.Refusal.the-variants.{Room, Shape, Year, Date, Clock, NoSecond, Range, Ask, Cut, Groups, Table, Tail, Number, Kernel}
+use Rattle.answer.specs.declared.Refusal.the-variants.{Room, Shape, Year, Date, Clock, NoSecond, Range, Ask, Cut, Groups, Table, Tail, Number, Kernel, Card}
 
 -- Each number, and what it is given exactly for.
 abbrev pub number : Refusal → ℕ
@@ -20,7 +20,7 @@ number Date = 4
 number Clock = 5
 -- a UTC second that the table does not admit
 number NoSecond = 6
--- the instant or Julian day has no label on this scale; a tick after the end of 9999
+-- the instant or Julian day has no label on this scale; a tick after the end of 9999; an entry after 2049 of a table that is to be written as cards
 number Range = 7
 -- unknown scale, picture or digit number
 number Ask = 8
@@ -36,6 +36,8 @@ number Tail = 12
 number Number = 13
 -- a file is no kernel, or is longer than is read; its place is said in specs/Promise.antt of `kernel`
 number Kernel = 14
+-- a line of a file is no card, or its date is out of order; its place is said in specs/Promise.antt of `cards`
+number Card = 15
 
 -- A call's order: tests, each with the refusal for its failing. The first that fails decides; `refuse` makes its answer.
 abbrev pub refusing : {A : Type 0} → (Refusal → A) → List (Bool × Refusal) → A → A

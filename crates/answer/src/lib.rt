@@ -22,6 +22,7 @@ pub enum Refusal {
     Tail,
     Number,
     Kernel,
+    Card,
 }
 
 // How many bytes were written, or why none.
@@ -49,6 +50,7 @@ pub fn number_of(why: Refusal) -> u32
         Refusal::Tail => 12,
         Refusal::Number => 13,
         Refusal::Kernel => 14,
+        Refusal::Card => 15,
     }
 }
 

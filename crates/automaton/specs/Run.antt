@@ -1,11 +1,12 @@
 -- The automaton along a file: where it stands behind bytes, and the pairs that it has read. Nothing here need be believed.
 -- Assumes nothing.
 use Prim.Native.Nat.{ℕ, _+_}
-use mathlib.Core.Bool.{Bool, true, false, cond}
+use mathlib.Core.Bool.{Bool, true, false}
 use mathlib.Core.List.{List, [], _∷_, _++_}
 use lib.Dec.{ltb}
-use lib.IntN.{ℤ, pos, negℤ}
+use lib.IntN.{ℤ}
 use lib.ListN.{length}
+use Rattle.digits.specs.Decimals.{signed}
 use Rattle.automaton.specs.declared.Mode.{Mode}
 use Rattle.automaton.specs.declared.Mode.the-variants.{Rest, Inside, Name, Ours, Pair, Date, Done, Dead}
 use Rattle.automaton.specs.declared.Resting.the-variants.{Text}
@@ -14,9 +15,6 @@ use Rattle.automaton.specs.Step.{step}
 -- a pair: a month number, and the number before its date
 abbrev pub Pairs : Type 0
 Pairs = List (ℕ × ℤ)
-
-abbrev pub signed : Bool → ℕ → ℤ
-signed minus n = cond minus (negℤ (pos n)) (pos n)
 
 -- right behind a date its pair is noted
 abbrev pub noted : Mode → Pairs → Pairs

@@ -1,15 +1,15 @@
 // A line to its answer. A further call is a name and a number in `calls`, and a line here.
 use crate::calls::INSTANT_OF;
+use crate::calls::READ_CARDS;
 use crate::calls::READ_JULIAN;
-use crate::calls::READ_KERNEL;
 use crate::calls::READ_TEXT;
 use crate::calls::STAMP_OF;
 use crate::calls::START;
 use crate::calls::TABLE;
 use crate::calls::TICK;
 use crate::calls::VOUCH;
+use crate::calls::WRITE_CARDS;
 use crate::calls::WRITE_JULIAN;
-use crate::calls::WRITE_KERNEL;
 use crate::calls::call_of;
 use crate::dates::read_julian;
 use crate::dates::write_julian;
@@ -48,10 +48,10 @@ fn call(k: usize, line: &[u8], c: Cursor, t: Table) -> Said {
 }
 
 fn tell_call(k: usize, line: &[u8], c: Cursor, t: Table, out: &mut [u8], at: usize) -> usize {
-    if k <= READ_KERNEL {
-        return tell_reading(k == READ_KERNEL, line, c, out, at);
+    if k <= READ_CARDS {
+        return tell_reading(k, line, c, out, at);
     }
-    if k <= WRITE_KERNEL {
+    if k <= WRITE_CARDS {
         return tell_writer(k, line, c, t, out, at);
     }
     tell(kept(line, call(k, line, c, t)), out, at)

@@ -21,9 +21,9 @@ fn flush(out: &[u8], state: State) -> State {
     s
 }
 
-// Answers are written out first where there are 48 KiB or more of them. An answer has below 16.
+// Answers are written out first where there are 40 KiB or more of them. An answer has below 20.
 fn room(out: &[u8], s: State) -> State {
-    if s.used < 49152 {
+    if s.used < 40960 {
         return s;
     }
     flush(out, s)

@@ -1,4 +1,6 @@
 // Tables taken from words and told in numbers.
+use crate::calls::READ_BLOCK;
+use crate::calls::READ_KERNEL;
 use crate::said::Said;
 use crate::said::kept;
 use crate::said::said_numbers;
@@ -155,33 +157,21 @@ fn size(line: &[u8], f: Field) -> usize {
     0
 }
 
-fn read_bytes(is_kernel: bool, bytes: &[u8]) -> TableRead {
-    if is_kernel {
-        return kernel::read_kernel(bytes);
+fn read_bytes(call: usize, bytes: &[u8]) -> TableRead {
+    match call {
+        READ_BLOCK => block::read_block(bytes),
+        READ_KERNEL => kernel::read_kernel(bytes),
+        _ => cards::read_cards(bytes),
     }
-    block::read_block(bytes)
 }
 
-// The bytes are held in what is lent.
-fn read_in(is_kernel: bool, line: &[u8], c: Cursor, bytes: &mut [u8]) -> Reading {
-    let f = fields::hex_field(line, c, bytes);
-    let n = lines::front(bytes, size(line, f));
-    let read = read_bytes(is_kernel, &bytes[..n]);
+fn read_table(call: usize, line: &[u8], c: Cursor) -> Reading {
+    let mut bytes = [0u8; 70000];
+    let f = fields::hex_field(line, c, &mut bytes);
+    let n = lines::front(&bytes, size(line, f));
+    let read = read_bytes(call, &bytes[..n]);
     let next = f.next;
     Reading { read, next }
-}
-
-fn read_long(is_kernel: bool, line: &[u8], c: Cursor) -> Reading {
-    let mut bytes = [0u8; 70000];
-    read_in(is_kernel, line, c, &mut bytes)
-}
-
-fn read_table(is_kernel: bool, line: &[u8], c: Cursor) -> Reading {
-    if 2048 < line.len() {
-        return read_long(is_kernel, line, c);
-    }
-    let mut bytes = [0u8; 1024];
-    read_in(is_kernel, line, c, &mut bytes)
 }
 
 // NO PLACE COUNT K M O ..
@@ -196,14 +186,14 @@ fn tell_table(line: &[u8], r: Reading, out: &mut [u8], at: usize) -> usize {
     tell_pairs(&t.months, &t.offsets, k, out, next)
 }
 
-// read_block HEX, read_kernel HEX
+// read_block HEX, read_kernel HEX, read_cards HEX
 pub(crate) fn tell_reading(
-    is_kernel: bool,
+    call: usize,
     line: &[u8],
     c: Cursor,
     out: &mut [u8],
     at: usize,
 ) -> usize {
-    let r = read_table(is_kernel, line, c);
+    let r = read_table(call, line, c);
     tell_table(line, r, out, at)
 }

@@ -36,9 +36,3 @@ pub(crate) fn tell(s: Said, out: &mut [u8], at: usize) -> usize {
     let next = numbers(out, at, &all, s.from, s.to);
     tell_text(tail, s.size, out, next)
 }
-
-// The first n bytes, in hex.
-pub(crate) fn bytes_in_hex(bytes: [u8; 4096], n: usize, out: &mut [u8], at: usize) -> usize {
-    let k = lines::front(&bytes, n);
-    lines::append_hex(out, at, &bytes[..k])
-}

@@ -20,24 +20,11 @@ fn text_said(m: MarkedText, next: Cursor) -> Said {
     }
 }
 
-// read_text SCALE HEX, the bytes held in what is lent.
-fn read_in(line: &[u8], c: Cursor, t: Table, bytes: &mut [u8]) -> Said {
-    let scale = fields::u32_field(line, c);
-    let f = fields::hex_field(line, scale.next, bytes);
-    let n = lines::front(bytes, f.value as usize);
-    text_said(text::read_text(t, scale.value, &bytes[..n]), f.next)
-}
-
-fn read_long(line: &[u8], c: Cursor, t: Table) -> Said {
-    let mut bytes = [0u8; 70000];
-    read_in(line, c, t, &mut bytes)
-}
-
 // read_text SCALE HEX
 pub(crate) fn read_text(line: &[u8], c: Cursor, t: Table) -> Said {
-    if 2048 < line.len() {
-        return read_long(line, c, t);
-    }
-    let mut bytes = [0u8; 1024];
-    read_in(line, c, t, &mut bytes)
+    let mut bytes = [0u8; 70000];
+    let scale = fields::u32_field(line, c);
+    let f = fields::hex_field(line, scale.next, &mut bytes);
+    let n = lines::front(&bytes, f.value as usize);
+    text_said(text::read_text(t, scale.value, &bytes[..n]), f.next)
 }

@@ -55,7 +55,7 @@ fn read_file(path: &[u8], buf: &mut [u8]) -> Got {
     g
 }
 
-// One byte more is read than a kernel may have, so that a longer one is seen.
+// One byte more is read than is taken of a kernel or of cards, so that a longer one is seen.
 fn answer_file(path: &[u8], line: &[u8], t: Table, out: &mut [u8], at: usize) -> Loaded {
     let mut file = [0u8; 65537];
     let g = read_file(path, &mut file);

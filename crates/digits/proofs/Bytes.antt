@@ -1,7 +1,7 @@
 -- Bytes at an index, bytes that are the same, and text in a lent buffer: one appended, one behind another.
 -- Assumes nothing.
 use mathlib.Core.Path.{_≡_, refl, sym, ap, ap₂, subst, _∙_}
-use mathlib.Core.Bool.{true}
+use mathlib.Core.Bool.{Bool, true, false}
 use mathlib.Core.List.{List, [], _∷_, _++_, append-assoc}
 use Prim.Native.Nat.{ℕ, zero, suc, _+_, _-_, min, _≤_, _<_}
 use native.Mathlib.Omega.{arith}
@@ -23,6 +23,19 @@ same-true [] [] e = refl
 same-true [] (y ∷ ys) e = cc
 same-true (x ∷ xs) [] e = cc
 same-true (x ∷ xs) (y ∷ ys) e = ap₂ _∷_ (eqb-true x y (and-l _ (sameBytes xs ys) e)) (same-true xs ys (and-r (eqb x y) _ e))
+
+pub same-self : (a : List ℕ) → sameBytes a a ≡ true
+same-self [] = refl
+same-self (x ∷ a) = rw (eq-eqb x x refl, same-self a)
+
+-- a comparison that answers true exactly for the same bytes
+pub same-is : (r : Bool) (a b : List ℕ) → (r ≡ true → a ≡ b) → (a ≡ b → r ≡ true) → r ≡ sameBytes a b
+same-is true a b f g = sym (ap (sameBytes a) (sym (f refl)) ∙ same-self a)
+same-is false a b f g = go (sameBytes a b) refl
+  where
+    go : (t : Bool) → sameBytes a b ≡ t → false ≡ sameBytes a b
+    go true e = let z : false ≡ true = g (same-true a b e) in cc
+    go false e = sym e
 
 -- what a slice from an index to the end of 21 bytes holds
 pub rest-is : (l : List ℕ) (i : ℕ) → length l ≡ 21 → take (21 - i) (drop i l) ≡ drop i l

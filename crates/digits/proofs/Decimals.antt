@@ -2,7 +2,7 @@
 -- Assumes nothing.
 use mathlib.Core.Path.{_≡_, refl, sym, ap, ap₂, subst, _∙_}
 use mathlib.Core.Bool.{Bool, true, false, cond, _&&_}
-use mathlib.Core.List.{List, [], _∷_}
+use mathlib.Core.List.{List, [], _∷_, _++_}
 use Prim.Native.Nat.{ℕ, zero, suc, _+_, _-_, _*_, _/_, _%_, _^_, _≤_, _<_}
 use native.Mathlib.Nat.{zero-add, zero-mul, one-mul, add-mul, mul-assoc, add-assoc, sub-zero, suc-add, suc-sub-suc, pow-succ', mod-eq-of-lt, one-le-pow, mul-le-mul-right, lt-of-lt-of-le, le-of-suc-le-suc, not-suc-le-zero, div-add-mod', div-div-eq-div-mul, mul-div-cancel}
 use native.Mathlib.Numerals.{add-one}
@@ -18,7 +18,7 @@ use lib.Signed.{ltZ, nonNeg}
 use mir.Syntax.{Width, w64}
 use mir.Val.{SFits, hbits, toZ, ofZ}
 use mir.Facts.{toZ-ofZ}
-use Rattle.laws.proofs.Cases.{pick, and-l, and-r}
+use Rattle.laws.proofs.Cases.{pick, and-l, and-r, join}
 use Rattle.digits.specs.Bytes.{bytesAt}
 use Rattle.digits.specs.Decimals.{isDigit, digitValue, allDigits, spelled, numberAt, digitsOf, widthOf, decimalText, signedText, decimalOf, Within}
 use Rattle.digits.specs.declared.Number.{Number}
@@ -46,6 +46,14 @@ module _ (b : ℕ) where
   value-other e = rw e
 
 -- ---- at a fixed width
+
+pub place-digit : (d : ℕ) → isDigit (48 + d % 10) ≡ true
+place-digit d = join (le-leb 48 (48 + d % 10) (omega arith)) (le-leb (48 + d % 10) 57 (omega arith))
+
+pub digits-all : (w n : ℕ) → allDigits (digitsOf w n) ≡ true
+unfolding allDigits
+digits-all zero n = refl
+digits-all (suc w) n = join (place-digit (n / 10 ^ w)) (digits-all w n)
 
 value-back : (d : ℕ) → digitValue (48 + d % 10) ≡ d % 10
 unfolding digitValue
@@ -101,6 +109,11 @@ digits-cut (suc w) (suc k) j n e =
     ap₂ (λ (q : ℕ) (l : List ℕ). (48 + q % 10) ∷ l) same (digits-cut w k j n (omega arith))
 
 -- ---- how large a spelled number is
+
+pub spelled-append : (n : ℕ) (a b : List ℕ) → spelled n (a ++ b) ≡ spelled (spelled n a) b
+unfolding spelled
+spelled-append n [] b = refl
+spelled-append n (x ∷ a) b = spelled-append (n * 10 + digitValue x) a b
 
 spelled-lt : (l : List ℕ) (a : ℕ) → spelled a l < (a + 1) * 10 ^ length l
 unfolding spelled

@@ -1,3 +1,4 @@
 pub mod Bytes
 pub mod Decimals
 pub mod Months
+pub mod Short

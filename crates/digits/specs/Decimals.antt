@@ -5,7 +5,7 @@ use Prim.Native.Nat.{ℕ, zero, suc, _+_, _-_, _*_, _/_, _%_, _^_, _≤_}
 use mathlib.Core.Bool.{Bool, true, cond, _&&_}
 use mathlib.Core.List.{List, [], _∷_}
 use lib.Dec.{leb, ltb}
-use lib.IntN.{ℤ, pos, negsuc}
+use lib.IntN.{ℤ, pos, negsuc, negℤ}
 use lib.ListN.{length}
 use Rattle.digits.specs.Bytes.{bytesAt}
 use Rattle.digits.specs.declared.Number.{Number}
@@ -53,6 +53,10 @@ spelled n (b ∷ s) = spelled (n * 10 + digitValue b) s
 -- the number that w bytes from index i on spell
 abbrev pub numberAt : List ℕ → ℕ → ℕ → ℕ
 numberAt s i w = spelled 0 (bytesAt s i w)
+
+-- a number with its sign
+abbrev pub signed : Bool → ℕ → ℤ
+signed minus n = cond minus (negℤ (pos n)) (pos n)
 
 -- plain digits, one or more, of a number up to most
 unfoldable pub decimalOf : ℕ → List ℕ → Number

@@ -7,7 +7,7 @@ ghost use lib.IntN.{natAbs};
 ghost use lib.ListN.{length, getD};
 ghost use Rattle.laws.specs.Placed.{place};
 ghost use Rattle.digits.specs.Bytes.{sameBytes, Appended, EndsWith};
-ghost use Rattle.digits.specs.Decimals.{isDigit, digitValue, digitsOf, widthOf, decimalOf, decimalText, signedText};
+ghost use Rattle.digits.specs.Decimals.{isDigit, digitValue, signed, digitsOf, widthOf, decimalOf, decimalText, signedText};
 ghost use Rattle.digits.specs.Months.{monthName, monthNamed};
 
 pub enum Number {
@@ -103,6 +103,17 @@ pub fn decimal(word: &[u8], most: u64) -> Number
         i += 1;
     }
     Number::Is(n)
+}
+
+// A number with its sign.
+pub fn with_sign(minus: bool, n: u16) -> i32
+    ensures { λ r. ⌜ r ≡ signed minus n ⌝ }
+{
+    let size = n as i32;
+    if minus {
+        return -size;
+    }
+    size
 }
 
 // ---- decimals out

@@ -12,7 +12,7 @@ use lib.Dec.{ltb, eqb, lit<}
 use lib.IntN.{ℤ}
 use lib.ListN.{length}
 use Rattle.laws.proofs.Cases.{by-test, both, join, one-of}
-use Rattle.digits.specs.Decimals.{isDigit, digitValue, spelled}
+use Rattle.digits.specs.Decimals.{isDigit, digitValue, spelled, signed}
 use Rattle.digits.specs.Months.{monthName}
 use Rattle.digits.proofs.Decimals.{value-most}
 use Rattle.leap.specs.Entries.{Entry}
@@ -26,10 +26,11 @@ use Rattle.automaton.specs.declared.Dating.the-variants.{Year, Month, Day}
 use Rattle.kinds.specs.Kinds.{isWhite, isGap, isBetween, isRun, isName, upper, beginData, beginText, ours}
 use Rattle.kinds.specs.Parts.{matched, grown, yearsBegin, grownYear, monthOn, monthNumber}
 use Rattle.automaton.specs.Step.{step}
-use Rattle.automaton.specs.Run.{signed, noted, mayEnd, run, scan}
+use Rattle.automaton.specs.Run.{noted, mayEnd, run, scan}
 use Rattle.grammar.specs.Grammar as G
 use Rattle.grammar.specs.Grammar.{every, Row, Some, some, One, one, Is, _▸_, Operator, equals, plus-equals, isPlain, Item, Whole, Assigns, Stops, MonthName, Stand, text, data-on, notFeed, BeginsData, File}
-use Rattle.grammar.proofs.Good.{Good, SameOrLarge, Kept}
+use Rattle.grammar.proofs.Good.{Good}
+use Rattle.leap.proofs.Kept.{SameOrLarge, Kept}
 use Rattle.grammar.proofs.Running.{run-append, step-on, dead-run}
 use Rattle.grammar.proofs.Lines.{behindLine, feed, white-plain, first-far, along, begins, or-not}
 use Rattle.grammar.proofs.Names.{never, nameFrom, not-all}

@@ -21,7 +21,8 @@ use Rattle.automaton.specs.declared.Dating.the-variants.{Year}
 use Rattle.kinds.specs.Kinds.{isRun, isName, ours}
 use Rattle.kinds.specs.Parts.{matched}
 use Rattle.automaton.specs.Step.{inText, step}
-use Rattle.automaton.specs.Run.{Pairs, signed, mayEnd, run, scan}
+use Rattle.digits.specs.Decimals.{signed}
+use Rattle.automaton.specs.Run.{Pairs, mayEnd, run, scan}
 use Rattle.grammar.specs.Grammar as G
 use Rattle.grammar.specs.Places.{FirstFault, DateMust, BadDate, SecondName, Place, at-the-date, at-the-name, at-the-byte}
 use Rattle.grammar.proofs.Good.{Good}

@@ -13,7 +13,7 @@ use lib.Dec.{ltb, eqb, lit≤}
 use lib.ListN.{length, getD, drop, length-append}
 use lib.Seq.{drop-cons}
 use Rattle.laws.proofs.Cases.{both, join}
-use Rattle.digits.specs.Decimals.{isDigit, spelled}
+use Rattle.digits.specs.Decimals.{isDigit, spelled, signed}
 use Rattle.leap.specs.Entries.{Entry}
 use Rattle.automaton.specs.declared.Mode.{Mode}
 use Rattle.automaton.specs.declared.Mode.the-variants.{Rest, Inside, Name, Ours, Pair, Date, Done, Dead}
@@ -25,10 +25,11 @@ use Rattle.automaton.specs.declared.Dating.the-variants.{Year, Month, Day}
 use Rattle.kinds.specs.Kinds.{isWhite, isGap, isBetween, isRun, isName, upper, beginData, beginText, ours}
 use Rattle.kinds.specs.Parts.{matched, grown, yearsBegin, grownYear, monthOn}
 use Rattle.automaton.specs.Step.{inText, inGap, inOther, inNamed, inSign, behindItem, toItem, toPair, step}
-use Rattle.automaton.specs.Run.{signed, noted, mayEnd, run, scan}
+use Rattle.automaton.specs.Run.{noted, mayEnd, run, scan}
 use Rattle.grammar.specs.Grammar as G
 use Rattle.grammar.specs.Grammar.{every, Row, Some, some, One, Is, _▸_, Another, Operator, equals, plus-equals, isPlain, Item, Whole, Stops, text, data-on, notFeed, BeginsData, File}
-use Rattle.grammar.proofs.Good.{Good, Kept}
+use Rattle.grammar.proofs.Good.{Good}
+use Rattle.leap.proofs.Kept.{Kept}
 use Rattle.grammar.proofs.Parts.{skip, lead, into, into-at, fold, put, mark, row-more, some-more, row-none}
 use Rattle.grammar.proofs.Lines.{behindLine, every-more, feed, mode-append, begins, or-not}
 use Rattle.grammar.proofs.Names.{never, NameAt, first-byte, name-next, not-ours, is-ours}

@@ -10,11 +10,10 @@ use borrow.Author.Tests.{lt-ltb, le-ltb}
 use lib.IntN.{pos, negℤ}
 use lib.Signed.{mag}
 use Rattle.laws.proofs.Cases.{by-order}
-use Rattle.digits.specs.Decimals.{digitValue, spelled}
+use Rattle.digits.specs.Decimals.{digitValue, spelled, signed}
 use Rattle.leap.specs.Entries.{Entry}
 use Rattle.kinds.specs.Parts.{grown}
-use Rattle.automaton.specs.Run.{signed}
-use Rattle.grammar.proofs.Good.{SameOrLarge, Kept}
+use Rattle.leap.proofs.Kept.{SameOrLarge, Kept}
 
 pub record Told : Type 0 where
   pub minus : Bool

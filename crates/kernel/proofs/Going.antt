@@ -1,25 +1,25 @@
 -- A kernel is read byte by byte: what is left to read, after what is read, is the whole.
 -- Assumes nothing.
 use Prim.Native.Nat.{ℕ, zero, suc, _+_, _-_, _≤_, _<_}
-use mathlib.Core.Path.{_≡_, refl, sym, ap, _∙_}
+use mathlib.Core.Path.{_≡_, refl, sym, ap, ap₂, _∙_}
 use mathlib.Core.Bool.{Bool, true, false, cond}
-use mathlib.Core.List.{List, [], _∷_, _++_, append-assoc}
+use mathlib.Core.List.{List, [], _∷_, _++_}
 use native.Mathlib.Omega.{arith}
 use native.Mathlib.Numerals.{add-one}
 use lib.Dec.{ltb, eqb}
 use lib.IntN.{ℤ}
-use lib.ListN.{length, drop, set, getD, replicate, length-append, replicate-append-replicate}
+use lib.ListN.{length, drop, set, getD, replicate, length-append, length-drop}
 use lib.Seq.{drop-cons, drop-length, drop-drop}
 use borrow.Author.Tests.{lt-ltb}
-use Rattle.laws.proofs.Cases.{pick, by-test, by-order}
+use Rattle.laws.proofs.Cases.{pick, by-order}
 use Rattle.answer.specs.declared.Refusal.the-variants.{Kernel as KERNEL}
-use Rattle.leap.specs.declared.Table.{Table}
-use Rattle.leap.specs.Leap.{tabled, accepted}
+use Rattle.leap.specs.Leap.{tabled}
 use Rattle.leap.specs.Entries.{tableOf}
 use Rattle.leap.specs.Readers.{refusedAt}
-use Rattle.leap.proofs.Facts.{count-to}
+use Rattle.leap.proofs.Facts.{too-many}
 use Rattle.leap.proofs.Entries.{Holds, holds-more, holds-table}
-use Rattle.lines.specs.Words.{before}
+use Rattle.lines.specs.Words.{before, leading, isBlank}
+use Rattle.lines.proofs.Words.{leading-split, leading-short, leading-blanks}
 use Rattle.automaton.specs.declared.Mode.{Mode}
 use Rattle.automaton.specs.declared.Mode.the-variants.{Rest, Ours, Done, Dead}
 use Rattle.automaton.specs.declared.Resting.{Resting}
@@ -29,7 +29,8 @@ use Rattle.automaton.specs.declared.Pairing.the-variants.{Named, OurValue, Firs
 use Rattle.kinds.specs.Kinds.{isWhite}
 use Rattle.kinds.specs.Parts.{matched}
 use Rattle.automaton.specs.Step.{step}
-use Rattle.automaton.specs.Run.{Pairs, signed, noted, standing, run, scan}
+use Rattle.digits.specs.Decimals.{signed}
+use Rattle.automaton.specs.Run.{Pairs, noted, standing, run, scan}
 use Rattle.grammar.proofs.Running.{step-on, dead-run}
 use Rattle.kernel.specs.Reading.{ended, verdict, OnlyBlanks, ReadsOn}
 
@@ -104,28 +105,20 @@ module _ {s : List ℕ} {i j : ℕ} (b : OnlyBlanks s i j) where
       still First have at = refl
       still Pairs′ have at = refl
 
--- none yet, and one more
-pub no-blank : {s : List ℕ} {i : ℕ} → i ≤ length s → OnlyBlanks s i i
-no-blank {s} {i} l = let e : 0 ≡ i - i = omega arith in record { blanks = ap (λ k. replicate k 32 ++ drop i s) e; later = omega arith; inside = l }
-
-pub blank-more : {s : List ℕ} {i j : ℕ} → OnlyBlanks s i j → j < length s → getD s j 0 ≡ 32 → OnlyBlanks s i (j + 1)
-blank-more {s} {i} {j} b l e =
-    let n : j + 1 - i ≡ j - i + 1 = omega (arith, b .later) in
-    let d : drop j s ≡ 32 ∷ drop (j + 1) s = drop-cons s j 0 l ∙ rw (e, add-one j) in
+-- the place behind blanks
+pub only-blanks : {s : List ℕ} {i j : ℕ} → i ≤ length s → j ≡ i + length (leading isBlank (drop i s)) → OnlyBlanks s i j
+only-blanks {s} {i} {j} l e =
+    let n = length (leading isBlank (drop i s)) in
+    let k : n ≡ j - i = omega arith in
     record {
       blanks =
-          b .blanks ∙ ap (λ u. replicate (j - i) 32 ++ u) d
-          ∙ sym (append-assoc (replicate (j - i) 32) (32 ∷ []) (drop (j + 1) s))
-          ∙ ap (λ u. u ++ drop (j + 1) s) (replicate-append-replicate (j - i) 1 32)
-          ∙ ap (λ k. replicate k 32 ++ drop (j + 1) s) (sym n);
-      later = omega (arith, b .later);
-      inside = omega arith;
+          leading-split isBlank (drop i s)
+          ∙ ap₂ _++_ (leading-blanks (drop i s) ∙ ap (λ m. replicate m 32) k) (drop-drop n i s ∙ ap (λ m. drop m s) (sym e));
+      later = omega arith;
+      inside = omega (arith, leading-short isBlank (drop i s), length-drop i s);
     }
 
 -- ---- the loop
-
-too-many : (t : Table) → 64 < t .count → accepted t ≡ false
-too-many t l = by-test (accepted t) (λ e. absurd (omega (arith, count-to t e))) (λ e. e)
 
 -- up to place i all is read: the reader stands at m, and the arrays hold the pairs, of which over 64 are only counted
 pub record Going (s : List ℕ) (m : Mode) (count : ℕ) (months : List ℕ) (offsets : List ℤ) (i : ℕ) : Type 0 where

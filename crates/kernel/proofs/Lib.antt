@@ -1,4 +1,3 @@
-pub mod Offsets
 pub mod Storing
 pub mod Going
 pub mod Written

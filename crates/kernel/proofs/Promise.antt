@@ -16,9 +16,9 @@ use Rattle.answer.proofs.Promise.{writer}
 use Rattle.leap.specs.declared.Table.{Table}
 use Rattle.leap.specs.Leap.{accepted}
 use Rattle.leap.specs.Entries.{Entry, entries, tableOf, Good}
-use Rattle.leap.specs.Readers.{refusedAt, tableResults}
-use Rattle.leap.proofs.Facts.{count-to, accepted-to}
-use Rattle.leap.proofs.Entries.{holds-long, table-is}
+use Rattle.leap.specs.Readers.{refusedAt, judged, tableResults}
+use Rattle.leap.proofs.Facts.{accepted-to}
+use Rattle.leap.proofs.Entries.{table-is, accepted-good}
 use Rattle.automaton.specs.declared.Mode.{Mode}
 use Rattle.automaton.specs.declared.Mode.the-variants.{Rest, Inside, Name, Ours, Pair, Date, Done, Dead}
 use Rattle.automaton.specs.Run.{mayEnd, scan}
@@ -31,13 +31,14 @@ use Rattle.grammar.proofs.Names.{never}
 use Rattle.grammar.proofs.GoingOn as First
 use Rattle.grammar.proofs.GoingOn.{kernel-is, good-is, goes-live, dies, first-fault}
 use Rattle.grammar.proofs.Placing.{placed}
-use Rattle.kernel.specs.Reading.{judged, placeOf, ended, readKernel}
+use Rattle.kernel.specs.Reading.{placeOf, ended, readKernel}
 use Rattle.kernel.specs.Writing.{kernelOf, kernelTests}
 use Rattle.kernel.specs.Promise.{GivesTable, Refuses, Fault, Case, a-kernel, a-fault, too-long, unfinished, caseNumber, ReadsKernel, WritesKernel, Kernels}
 use Rattle.kernel.proofs.Written as Written
 use Rattle.kernel.proofs.Storing.{kernel-same}
 use Rattle.kernel.proofs.Sizes.{sizes}
-use Rattle.kernel.proofs.Judging.{kept-judged, good-read}
+use Rattle.kernel.proofs.Judging.{good-read}
+use Rattle.leap.proofs.Kept.{kept-judged}
 
 -- ---- what is read in each case
 
@@ -177,12 +178,6 @@ answered s = go (cases s)
     go (a-fault x b f) = let d = dies (x ++ b ∷ []) (f .certain .no-more) in as-refused (d .place) (fault-read f (d .place) (d .there))
     go (too-long l g) = as-refused limit (long-read s l g)
     go (unfinished l g n) = as-refused (length s) (end-read s l g n)
-
-accepted-good : (es : List Entry) → accepted (tableOf es) ≡ true → Good (tableOf es)
-unfolding tableOf
-accepted-good es a =
-    let long = holds-long {es = es} (record { months-are = refl; offsets-are = refl }) (count-to (tableOf es) a .1) in
-    record { is-accepted = a; no-month = refl; months-long = long .0; offsets-long = long .1 }
 
 -- a kernel's table, accepted or not
 module _ (s : List ℕ) (es : List Entry) (e : readKernel s ≡ judged (tableOf es)) where

@@ -18,7 +18,7 @@ use Rattle.leap.proofs.Entries.{Follow, from-long, accepted-entries}
 use Rattle.digits.specs.Bytes.{ascii}
 use Rattle.digits.specs.Decimals.{widthOf, decimalText, signedText}
 use Rattle.kernel.specs.Writing.{dateText, pairText, laterPairs, pairsText, back, kernelOf}
-use Rattle.kernel.proofs.Offsets.{one-digit, decimal-short}
+use Rattle.digits.proofs.Short.{one-digit, decimal-short}
 
 -- z is the offset of entry k, and the numbers so far have `size` bytes: two each, one less for each from 9 down to 0 on the way, and one more for each below -9
 record Sized (z : ℤ) (k size : ℕ) : Type 0 where

@@ -18,7 +18,8 @@ use Rattle.digits.specs.Decimals.{digitsOf, signedText}
 use Rattle.digits.specs.Months.{monthName}
 use Rattle.digits.proofs.Bytes.{placed, then-placed}
 use Rattle.kernel.specs.Writing.{dateText, pairText, nextLine, laterPairs, pairsText, front, back, kernelOf}
-use Rattle.kernel.proofs.Offsets.{small, signed-short}
+use Rattle.leap.proofs.Offsets.{small}
+use Rattle.digits.proofs.Short.{signed-short}
 
 -- ---- a pair is six texts
 

@@ -20,12 +20,13 @@ use Rattle.leap.proofs.Entries.{entries-long, accepted-entries}
 use Rattle.digits.specs.Bytes.{ascii}
 use Rattle.digits.specs.Decimals.{isDigit, spelled, digitsOf, decimalText, signedText}
 use Rattle.digits.specs.Months.{monthName}
-use Rattle.digits.proofs.Decimals.{number-back}
+use Rattle.digits.proofs.Decimals.{place-digit, number-back}
 use Rattle.kinds.specs.Kinds.{isBetween, upper, beginData, beginText, ours}
 use Rattle.grammar.specs.Grammar.{every, Row, Some, some, one, _▸_, Whole, bare, minus, Year, MonthName, short, Date, Pair, Pairs, last, more, Ours, File, text, data-on, text-ends, data-begins, line-ends, text-begins, our-pairs, Kernel}
 use Rattle.grammar.proofs.Months.{twelve}
 use Rattle.kernel.specs.Writing.{dateText, pairText, laterPairs, pairsText, front, back, kernelOf}
-use Rattle.kernel.proofs.Offsets.{Fine, decimal-form, all-fine}
+use Rattle.leap.proofs.Offsets.{Fine, all-fine}
+use Rattle.digits.proofs.Short.{decimal-form}
 
 -- x, and y behind it
 part : {A B : List ℕ → Type 0} (x y : List ℕ) → A x → B y → (A ▸ B) (x ++ y)
@@ -33,13 +34,10 @@ part x y a b = record { first = x; rest = y; is-first = a; is-rest = b; split = 
 
 -- ---- a number
 
-digit : (d : ℕ) → isDigit (48 + d % 10) ≡ true
-digit d = join (le-leb 48 (48 + d % 10) (omega arith)) (le-leb (48 + d % 10) 57 (omega arith))
-
 digits-row : (w n : ℕ) → Row isDigit (digitsOf w n)
 unfolding every
 digits-row zero n = refl
-digits-row (suc w) n = join (digit (n / 10 ^ w)) (digits-row w n)
+digits-row (suc w) n = join (place-digit (n / 10 ^ w)) (digits-row w n)
 
 -- digits, and the number that they spell
 abbrev Spells : ℕ → List ℕ → Type 0
@@ -48,8 +46,8 @@ Spells n x = Some isDigit x × (spelled 0 x ≡ n)
 decimal-spells : (n : ℕ) → n < 100 → Spells n (decimalText n)
 decimal-spells n h =
     decimal-form n (Spells n) h
-    (λ l. (some (digit (n / 10 ^ 0)) (digits-row 0 n), number-back 1 (omega arith)))
-    (λ l. (some (digit (n / 10 ^ 1)) (digits-row 1 n), number-back 2 (omega arith)))
+    (λ l. (some (place-digit (n / 10 ^ 0)) (digits-row 0 n), number-back 1 (omega arith)))
+    (λ l. (some (place-digit (n / 10 ^ 1)) (digits-row 1 n), number-back 2 (omega arith)))
 
 number-is : (z : ℤ) → mag z < 99 → Whole z (signedText z)
 unfolding signedText

@@ -7,19 +7,15 @@ use mathlib.Core.Bool.{Bool, true, false, cond, _&&_}
 use mathlib.Core.List.{List, _++_}
 use lib.Dec.{ltb, leb}
 use lib.ListN.{length, take, drop, replicate}
-use Rattle.answer.specs.declared.Refusal.the-variants.{Table as TABLE, Kernel as KERNEL}
+use Rattle.answer.specs.declared.Refusal.the-variants.{Kernel as KERNEL}
 use Rattle.leap.specs.declared.Table.{Table}
 use Rattle.leap.specs.declared.TableRead.{TableRead}
-use Rattle.leap.specs.Leap.{accepted}
 use Rattle.leap.specs.Entries.{tableOf}
-use Rattle.leap.specs.Readers.{found, refusedAt}
+use Rattle.leap.specs.Readers.{refusedAt, judged}
 use Rattle.automaton.specs.declared.Mode.{Mode}
 use Rattle.automaton.specs.declared.Mode.the-variants.{Rest, Inside, Name, Ours, Pair, Date, Done, Dead}
 use Rattle.grammar.specs.Places.{limit}
 use Rattle.automaton.specs.Run.{Pairs, mayEnd, run, scan}
-
-abbrev pub judged : Table → TableRead
-judged t = cond (accepted t) (found t) (refusedAt TABLE 0)
 
 -- the place of a fault: where it is certain, that place, else the end of the n bytes
 abbrev pub placeOf : ℕ → Mode → ℕ

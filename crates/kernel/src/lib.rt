@@ -7,9 +7,9 @@ ghost use lib.ListN.{length, take};
 ghost use lib.Signed.{mag};
 ghost use Rattle.digits.specs.Bytes.{Placed};
 ghost use Rattle.leap.specs.Leap.{tabled, accepted};
-ghost use Rattle.automaton.specs.Run.{signed, mayEnd};
+ghost use Rattle.automaton.specs.Run.{mayEnd};
 ghost use Rattle.automaton.specs.declared.Mode.the-variants.{Rest};
-ghost use Rattle.kernel.specs.Reading.{judged, placeOf, ended, verdict, readKernel, OnlyBlanks, ReadsOn};
+ghost use Rattle.kernel.specs.Reading.{placeOf, ended, verdict, readKernel, ReadsOn};
 ghost use Rattle.kernel.specs.Writing.{pairText, kernelOf, writeKernel, writeKernelAfter};
 use answer::Refusal;
 use answer::Written;
@@ -23,20 +23,6 @@ const LIMIT: usize = 65536;
 
 // ---- reading
 
-fn past_blanks(s: &[u8], from: usize) -> usize
-    requires { ⌜ from ≤ length (now s) ⌝ }
-    ensures { λ r. ⌜ OnlyBlanks (now (s .entry)) from r ⌝ }
-{
-    let mut i = from;
-    while i < s.len() {
-        if s[i] != b' ' {
-            return i;
-        }
-        i += 1;
-    }
-    i
-}
-
 // What leaves the reader where it stands is not looked at: the rest of a line of text that is no \begindata line, and blanks.
 fn pass_over(s: &[u8], i: usize, rest: Resting) -> usize
     requires { ⌜ i ≤ length (now s) ⌝ }
@@ -48,26 +34,16 @@ fn pass_over(s: &[u8], i: usize, rest: Resting) -> usize
                 return lines::until(s, i, b'\n');
             }
             if k == 0 {
-                return past_blanks(s, i);
+                return lines::past_blanks(s, i);
             }
             i
         }
-        Resting::Fresh => past_blanks(s, i),
-        Resting::Gap => past_blanks(s, i),
+        Resting::Fresh => lines::past_blanks(s, i),
+        Resting::Gap => lines::past_blanks(s, i),
         Resting::Closed => i,
         Resting::Run => i,
         Resting::Quoted => i,
     }
-}
-
-fn with_sign(minus: bool, n: u16) -> i32
-    ensures { λ r. ⌜ r ≡ signed minus n ⌝ }
-{
-    let size = n as i32;
-    if minus {
-        return -size;
-    }
-    size
 }
 
 fn may_end(mode: Mode) -> bool
@@ -100,15 +76,6 @@ fn place_of(n: usize, mode: Mode) -> usize
     }
 }
 
-fn judge<'a>(count: usize, months: &'a [u32; 64], offsets: &'a [i32; 64]) -> TableRead
-    ensures { λ r. ⌜ r ≡ judged (tabled count (now (months .entry)) (now (offsets .entry))) ⌝ }
-{
-    if leap::is_accepted_in(count, months, offsets, 0) {
-        return leap::found(count, months, offsets);
-    }
-    leap::refused_at(Refusal::Table, 0)
-}
-
 // The n bytes end with these pairs; `whole`: they are the file.
 fn settle<'a>(
     whole: bool,
@@ -121,7 +88,7 @@ fn settle<'a>(
     ensures { λ r. ⌜ r ≡ ended whole n mode (tabled count (now (months .entry)) (now (offsets .entry))) ⌝ }
 {
     if may_end(mode) & (whole & (0 < count)) {
-        return judge(count, months, offsets);
+        return leap::judge(count, months, offsets);
     }
     leap::refused_at(Refusal::Kernel, place_of(n, mode))
 }
@@ -142,13 +109,13 @@ fn read_bytes(s: &[u8], whole: bool) -> TableRead
             Mode::Rest(rest) => i = pass_over(s, i, rest),
             Mode::Inside(_) => {}
             Mode::Name(_, _) => {}
-            Mode::Ours(_) => i = past_blanks(s, i),
+            Mode::Ours(_) => i = lines::past_blanks(s, i),
             Mode::Pair(_, _, _) => {}
             Mode::Date(_, _, _, _) => {}
             Mode::Done(_, minus, n, month) => {
                 if count < 64 {
                     months[count] = month;
-                    offsets[count] = with_sign(minus, n);
+                    offsets[count] = digits::with_sign(minus, n);
                     count += 1;
                 } else {
                     count = 65;

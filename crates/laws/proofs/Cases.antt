@@ -18,6 +18,11 @@ pick P false f g = g refl
 pub pick< : {A : Type 0} (P : A → Type 0) (m n : ℕ) {x y : A} → (m < n → P x) → (n ≤ m → P y) → P (cond (ltb m n) x y)
 pick< P m n f g = pick P (ltb m n) (λ e. f (ltb-true m n e)) (λ e. g (ltb-false m n e))
 
+-- a choice that is not its second side is its first
+pub chosen : {A : Type 0} (t : Bool) {x y z : A} → (y ≡ z → ⊥) → cond t x y ≡ z → (t ≡ true) × (x ≡ z)
+chosen true n e = (refl, e)
+chosen false n e = absurd (n e)
+
 pub by-test : {P : Type 0} (t : Bool) → (t ≡ true → P) → (t ≡ false → P) → P
 by-test true f g = f refl
 by-test false f g = g refl

@@ -1,6 +1,7 @@
 -- The entries of a table one by one, a table made entry by entry, and what is accepted in terms of them.
 -- Assumes nothing.
 use mathlib.Core.Path.{_≡_, refl, sym, ap, subst, _∙_}
+use mathlib.Core.Bool.{true}
 use mathlib.Core.List.{List, [], _∷_, _++_, map, map-append}
 use Prim.Native.Nat.{ℕ, zero, suc, _+_, _-_, _≤_, _<_}
 use native.Mathlib.Numerals.{add-one}
@@ -11,9 +12,9 @@ use lib.Seq.{set-at, getD-append-add, ext-getD, append-snoc}
 use Rattle.laws.proofs.Cases.{by-order}
 use Rattle.laws.proofs.Placed.{replicate-same}
 use Rattle.leap.specs.declared.Table.{Table}
-use Rattle.leap.specs.Leap.{tabled, vouchedTo, padded}
+use Rattle.leap.specs.Leap.{tabled, vouchedTo, padded, accepted}
 use Rattle.leap.specs.Entries.{Entry, firstEntry, noEntry, entry, entriesFrom, entries, tableOf, Good}
-use Rattle.leap.proofs.Facts.{Later, Accepted, same-entry, accepted-to, accepted-from}
+use Rattle.leap.proofs.Facts.{Later, Accepted, same-entry, count-to, accepted-to, accepted-from}
 use Rattle.leap.proofs.Vouched.{none-right}
 
 -- ---- the places of a list
@@ -181,3 +182,10 @@ accepted-of es l h =
       months-long = long .0;
       offsets-long = long .1;
     }
+
+-- an accepted table of a list has all that is good
+pub accepted-good : (es : List Entry) → accepted (tableOf es) ≡ true → Good (tableOf es)
+unfolding tableOf
+accepted-good es a =
+    let long = holds-long (holds-of es) (count-to (tableOf es) a .1) in
+    record { is-accepted = a; no-month = refl; months-long = long .0; offsets-long = long .1 }

@@ -2,7 +2,7 @@
 -- Assumes nothing.
 use mathlib.Core.Path.{_≡_, sym, ap, ap₂, subst, _∙_}
 use mathlib.Core.Logic.{_⊎_, inl, inr, ⊎-map}
-use mathlib.Core.Bool.{true, _&&_}
+use mathlib.Core.Bool.{true, false, _&&_}
 use Prim.Native.Nat.{ℕ, zero, suc, _+_, _-_, _≤_, _<_}
 use native.Mathlib.Numerals.{add-one}
 use native.Mathlib.Omega.{arith}
@@ -10,7 +10,7 @@ use borrow.Author.Tests.{leb-true, ltb-true, eqb-true, lt-ltb, le-leb, eq-eqb}
 use lib.Dec.{leb, ltb, eqb}
 use lib.IntN.{ℤ, sucℤ}
 use Rattle.laws.specs.Tests.{eqZ, allBelow}
-use Rattle.laws.proofs.Cases.{both, and-l, and-r, one-of, or-l, or-r, join, below, all-below, by-order}
+use Rattle.laws.proofs.Cases.{both, and-l, and-r, one-of, or-l, or-r, join, below, all-below, by-test, by-order}
 use Rattle.laws.proofs.Machine.{eqZ-true, eqZ-eq}
 use Rattle.leap.specs.declared.Table.{Table}
 use Rattle.leap.specs.Leap.{lastEntryMonth, entryMonth, oneApart, laterRight, placeRight, vouchedRight, accepted}
@@ -65,6 +65,10 @@ module _ (t : Table) where
   pub count-to : accepted t ≡ true → (1 ≤ t .count) × (t .count ≤ 64)
   unfolding accepted
   count-to e = search (and-l, and-r, leb-true)
+
+  -- over 64 entries are no table
+  pub too-many : 64 < t .count → accepted t ≡ false
+  too-many l = by-test (accepted t) (λ e. absurd (omega (arith, count-to e))) (λ e. e)
 
   pub accepted-to : accepted t ≡ true → Accepted t
   unfolding accepted placeRight

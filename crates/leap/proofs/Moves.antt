@@ -49,7 +49,7 @@ module _ (t : Table) (acc : Accepted t) where
 
   -- ---- how far it gets
 
-  entry-small : (k : ℕ) → k < t .count → (up (entryOffset t k) ≤ 10 + k) × (down (entryOffset t k) ≤ k)
+  pub entry-small : (k : ℕ) → k < t .count → (up (entryOffset t k) ≤ 10 + k) × (down (entryOffset t k) ≤ k)
   entry-small zero h = omega (arith, eq-to ten, one-side (entryOffset t 0))
   entry-small (suc k) h =
       let ih = entry-small k (omega arith) in

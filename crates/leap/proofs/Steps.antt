@@ -26,7 +26,7 @@ module _ (t : Table) (acc : Accepted t) where
   rises k h = rw (add-one k) at (acc .later k (omega arith))
 
   -- a later entry's month is not before
-  grow : (k n : ℕ) → k ≤ n → n < t .count → entryMonth t k ≤ entryMonth t n
+  pub grow : (k n : ℕ) → k ≤ n → n < t .count → entryMonth t k ≤ entryMonth t n
   grow k zero h l = let e : k ≡ 0 = omega arith in rw e (omega arith)
   grow k (suc n) h l =
       by-order k (suc n)

@@ -8,7 +8,7 @@ ghost use Prim.Native.Nat.{_+_, _≤_, _<_};
 ghost use lib.IntN.{sucℤ};
 ghost use lib.Dec.{leb};
 ghost use Rattle.laws.specs.Tests.{eqZ, allBelow};
-ghost use Rattle.leap.specs.Readers.{found, refusedAt};
+ghost use Rattle.leap.specs.Readers.{found, refusedAt, judged};
 ghost use Rattle.leap.specs.Leap.{tabled, vouchedTo, oneApart, firstRight, laterRight, unusedRight, placeRight, vouchedRight, accepted, epoch, lastBegun, offsetAt, nearAt, top, beyond, bulletinC};
 
 // `count` entries, each a month (January 1972 is 0) and TAI-UTC in seconds from its first day. Unused places are zero.
@@ -175,6 +175,16 @@ pub fn is_accepted_in<'a>(
         return false;
     }
     vouched_right(months[count - 1], vouched)
+}
+
+// A table that was read, judged: an accepted one is the answer, another is refused without a place.
+pub fn judge<'a>(count: usize, months: &'a [u32; 64], offsets: &'a [i32; 64]) -> TableRead
+    ensures { λ r. ⌜ r ≡ judged (tabled count (now (months .entry)) (now (offsets .entry))) ⌝ }
+{
+    if is_accepted_in(count, months, offsets, 0) {
+        return found(count, months, offsets);
+    }
+    refused_at(Refusal::Table, 0)
 }
 
 // ---- TAI-UTC

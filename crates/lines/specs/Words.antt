@@ -1,4 +1,4 @@
--- What stands before the first of a byte, a line or a word; and the lines of a text, counted from 0.
+-- What stands before the first of a byte, a line or a word; the bytes of a kind in front; and the lines of a text, counted from 0.
 -- Assumes nothing.
 use Prim.Native.Nat.{ℕ, zero, suc, _+_, min}
 use mathlib.Core.Bool.{Bool, cond}
@@ -10,6 +10,15 @@ use lib.ListN.{length, drop}
 unfoldable pub before : ℕ → List ℕ → List ℕ
 before b [] = []
 before b (x ∷ s) = cond (eqb x b) [] (x ∷ before b s)
+
+-- the bytes of a kind with which a text begins
+unfoldable pub leading : (ℕ → Bool) → List ℕ → List ℕ
+leading kind [] = []
+leading kind (x ∷ s) = cond (kind x) (x ∷ leading kind s) []
+
+-- a blank
+abbrev pub isBlank : ℕ → Bool
+isBlank b = eqb b 32
 
 -- the byte b does not stand in a text
 abbrev pub without : ℕ → List ℕ → Bool

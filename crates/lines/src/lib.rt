@@ -1,4 +1,4 @@
-// Lines as programs read and write them: up to a byte, the lines of a text, the front of a buffer, lines out of chunks, and bytes as pairs of hex digits.
+// Lines as programs read and write them: up to a byte, behind blanks, the lines of a text, the front of a buffer, lines out of chunks, and bytes as pairs of hex digits.
 // Every public function is total.
 ghost use mathlib.Core.Path.{_≡_};
 ghost use mathlib.Core.List.{[], _∷_};
@@ -6,7 +6,7 @@ ghost use Prim.Native.Nat.{_+_, _*_, _/_, _≤_, _<_, min};
 ghost use lib.ListN.{length, drop};
 ghost use Rattle.laws.specs.Placed.{place};
 ghost use Rattle.digits.specs.Bytes.{Counts, Appended};
-ghost use Rattle.lines.specs.Words.{before, past as Words·past, lineOf, lineStart};
+ghost use Rattle.lines.specs.Words.{before, leading, isBlank, past as Words·past, lineOf, lineStart};
 ghost use Rattle.lines.specs.Cuts.{pieceAt, cutAt, heldIn};
 ghost use Rattle.lines.specs.Pairs.{nibble, paired, hexOf, hexInto, glyph as Pairs·glyph, hexText, hexShown};
 use digits::Number;
@@ -19,6 +19,21 @@ pub fn until(s: &[u8], from: usize, b: u8) -> usize
     let mut i = from;
     while i < s.len() {
         if s[i] == b {
+            return i;
+        }
+        i += 1;
+    }
+    i
+}
+
+// The index behind the blanks from `from` on; the end, or `from` itself past that.
+pub fn past_blanks(s: &[u8], from: usize) -> usize
+    ensures { λ r. ⌜ r ≡ from + length (leading isBlank (drop from (now (s .entry)))) ⌝ }
+    ensures { λ r. ⌜ (from ≤ length (now (s .entry)) → r ≤ length (now (s .entry))) × (from ≤ r) ⌝ }
+{
+    let mut i = from;
+    while i < s.len() {
+        if s[i] != b' ' {
             return i;
         }
         i += 1;

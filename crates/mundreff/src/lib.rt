@@ -15,6 +15,8 @@ ghost use Rattle.mundreff.specs.Answers.{tableNumbers, stampFields, inst
 ghost use Rattle.block.specs.Blocks.{writeBlock, writeBlockAfter};
 ghost use Rattle.kernel.specs.Reading.{readKernel};
 ghost use Rattle.kernel.specs.Writing.{writeKernel, writeKernelAfter};
+ghost use Rattle.cards.specs.Reading.{readCards};
+ghost use Rattle.cards.specs.Writing.{writeCards, writeCardsAfter};
 ghost use Rattle.mundreff.specs.Calls.{labelFrom, scaleFrom, readingFrom, pair};
 use answer::Written;
 use clock::MarkedTick;
@@ -286,6 +288,29 @@ pub extern "C" fn mundreff_write_kernel(
     ensures { λ _. ⌜ now (out .exit) ≡ writeKernelAfter (tableFrom (now (table .entry))) (now (out .entry)) ⌝ }
 {
     give_length(kernel::write_kernel(table_of(table), out), length)
+}
+
+#[no_mangle]
+pub extern "C" fn mundreff_read_cards<'a>(
+    file: &[u8],
+    place: &'a mut usize,
+    table: &'a mut [u32; 130],
+) -> u32
+    ensures { λ r. ⌜ (r, now (place .exit), now (table .exit)) ≡ tableNumbers (readCards (now (file .entry))) ⌝ }
+{
+    give_table(cards::read_cards(file), place, table)
+}
+
+#[no_mangle]
+pub extern "C" fn mundreff_write_cards(
+    table: &[u32; 130],
+    out: &mut [u8],
+    length: &mut usize,
+) -> u32
+    ensures { λ r. ⌜ (r, now (length .exit)) ≡ writtenResults (writeCards (tableFrom (now (table .entry))) (now (out .entry))) ⌝ }
+    ensures { λ _. ⌜ now (out .exit) ≡ writeCardsAfter (tableFrom (now (table .entry))) (now (out .entry)) ⌝ }
+{
+    give_length(cards::write_cards(table_of(table), out), length)
 }
 
 #[no_mangle]

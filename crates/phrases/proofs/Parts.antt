@@ -12,23 +12,10 @@ use lib.ListN.{length, take, drop, getD, length-drop, drop-of-length-le}
 use lib.Seq.{drop-cons, drop-length, take-suc, take-all}
 use Rattle.laws.proofs.Placed.{take-min}
 use Rattle.digits.specs.Bytes.{sameBytes}
-use Rattle.digits.proofs.Bytes.{same-true}
+use Rattle.digits.proofs.Bytes.{same-is}
 use Rattle.phrases.specs.Parts.{beginsWith, upTo, behind, shownByte, quoted}
 
 -- ---- the same bytes
-
-pub same-self : (a : List ℕ) → sameBytes a a ≡ true
-same-self [] = refl
-same-self (x ∷ a) = rw (eq-eqb x x refl, same-self a)
-
--- a comparison that answers true exactly for the same bytes
-pub same-is : (r : Bool) (a b : List ℕ) → (r ≡ true → a ≡ b) → (a ≡ b → r ≡ true) → r ≡ sameBytes a b
-same-is true a b f g = sym (ap (sameBytes a) (sym (f refl)) ∙ same-self a)
-same-is false a b f g = go (sameBytes a b) refl
-  where
-    go : (t : Bool) → sameBytes a b ≡ t → false ≡ sameBytes a b
-    go true e = let z : false ≡ true = g (same-true a b e) in cc
-    go false e = sym e
 
 pub same-told : (s w : List ℕ) {r b : Bool} → ((r ≡ true → s ≡ w) × (s ≡ w → r ≡ true)) → r ≡ b → sameBytes s w ≡ b
 same-told s w {r} e q = sym (same-is r s w (e .0) (e .1)) ∙ q

@@ -1,4 +1,4 @@
--- The refusals in words, one line for each: line 0 stands for none, lines 1 to 14 for the refusals of these numbers, and the later ones for what only a desk's request can get wrong.
+-- The refusals in words, one line for each: line 0 stands for none, lines 1 to 15 for the refusals of these numbers, and the later ones for what only a desk's request can get wrong.
 -- Assumes nothing.
 use Prim.Native.String.{String}
 use Prim.Native.Nat.{ℕ}
@@ -16,7 +16,7 @@ s line rest = ascii s ++ (10 ∷ rest)
 abbrev pub names : List ℕ
 names =
     "-" line "ROOM" line "SHAPE" line "YEAR" line "DATE" line "CLOCK" line "NOSECOND" line "RANGE" line "ASK" line "CUT"
-    line "GROUPS" line "TABLE" line "TAIL" line "NUMBER" line "KERNEL" line []
+    line "GROUPS" line "TABLE" line "TAIL" line "NUMBER" line "KERNEL" line "CARD" line []
 
 -- what is wrong
 abbrev pub sentences : List ℕ
@@ -36,36 +36,41 @@ sentences =
     line "The block goes on behind its last entry."
     line "This is no pair of a midnight and a fraction."
     line "The file is no leap-seconds kernel or is longer than 65536 bytes."
+    line "A line of the file is no TP card or its date is out of order."
     line "The line has over 1024 bytes."
     line "A number of seconds looks like 90.5 or -3 with up to 12 digits and six behind the point."
     line "A name has no comma and no quote in it."
     line "A month looks like 2026-12 and is not before 1972-01."
-    line "A refusal has a number from 1 to 14."
+    line "A refusal has a number from 1 to 15."
     line "A block is written as pairs of hex digits."
     line "The file cannot be read."
+    line "The file is longer than 65536 bytes."
     line []
 
 -- the desk's own, behind those of the refusals
 abbrev pub longLine : ℕ
-longLine = 15
+longLine = 16
 
 abbrev pub noSeconds : ℕ
-noSeconds = 16
+noSeconds = 17
 
 abbrev pub noName : ℕ
-noName = 17
+noName = 18
 
 abbrev pub noMonth : ℕ
-noMonth = 18
+noMonth = 19
 
 abbrev pub noNumber : ℕ
-noNumber = 19
+noNumber = 20
 
 abbrev pub noHex : ℕ
-noHex = 20
+noHex = 21
 
 abbrev pub noFile : ℕ
-noFile = 21
+noFile = 22
+
+abbrev pub longFile : ℕ
+longFile = 23
 
 -- what to do
 abbrev pub advice : List ℕ
@@ -85,6 +90,7 @@ advice =
     line "Copy the block alone."
     line "Give a midnight that ends in .5 and a fraction below 1."
     line "Look at the byte that is named; or ask for the file again."
+    line "Look at the line that begins at the byte that is named; or ask for the file again."
     line []
 
 -- the months' names; line 0 stands for none
@@ -115,6 +121,7 @@ help =
     line "pass AURORA-3 from UTC 2016-12-31T23:58:30 to UTC 2017-01-01T00:01:30"
     line "table"
     line "table kernel FILE"
+    line "table cards FILE"
     line "table block HEX"
     line "vouched 2026-12"
     line "why 6"

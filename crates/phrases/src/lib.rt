@@ -17,20 +17,20 @@ pub struct Said {
     pub good: bool,
 }
 
-const NAMES: [u8; 84] =
-    *b"-\nROOM\nSHAPE\nYEAR\nDATE\nCLOCK\nNOSECOND\nRANGE\nASK\nCUT\nGROUPS\nTABLE\nTAIL\nNUMBER\nKERNEL\n";
+const NAMES: [u8; 89] =
+    *b"-\nROOM\nSHAPE\nYEAR\nDATE\nCLOCK\nNOSECOND\nRANGE\nASK\nCUT\nGROUPS\nTABLE\nTAIL\nNUMBER\nKERNEL\nCARD\n";
 
-const SENTENCES: [u8; 1379] =
-    *b"-\nThe result is longer than the buffer that was lent.\nA stamp looks like 1987-04-12T16:31:12 or 1987-102T16:31:12 or 1986 APR 12 16:31:09 and one to six digits may follow a point. Not read are a blank for the T; a Z or a blank or a carriage return at the end; a stamp without seconds; Dec for DEC.\nThe year is before 1972 or past 9999.\nThe month or the day is zero or too large.\nThe hour is over 23 or the minute over 59 or the second over 60; and TAI and TDT and GPS have no second 60.\nUTC has no such second under the table in force.\nWhat is asked for lies before 1972 or past 9999 on its clock.\nThis is no request or a stamp without its clock. The clocks are UTC and TAI and TDT and GPS; help lists the requests.\nThe block ends too soon.\nA number of the block is not in its shortest form.\nThe leap table is not right or none is loaded; or its last entry lies after the month that it is to be vouched for.\nThe block goes on behind its last entry.\nThis is no pair of a midnight and a fraction.\nThe file is no leap-seconds kernel or is longer than 65536 bytes.\nThe line has over 1024 bytes.\nA number of seconds looks like 90.5 or -3 with up to 12 digits and six behind the point.\nA name has no comma and no quote in it.\nA month looks like 2026-12 and is not before 1972-01.\nA refusal has a number from 1 to 14.\nA block is written as pairs of hex digits.\nThe file cannot be read.\n";
+const SENTENCES: [u8; 1478] =
+    *b"-\nThe result is longer than the buffer that was lent.\nA stamp looks like 1987-04-12T16:31:12 or 1987-102T16:31:12 or 1986 APR 12 16:31:09 and one to six digits may follow a point. Not read are a blank for the T; a Z or a blank or a carriage return at the end; a stamp without seconds; Dec for DEC.\nThe year is before 1972 or past 9999.\nThe month or the day is zero or too large.\nThe hour is over 23 or the minute over 59 or the second over 60; and TAI and TDT and GPS have no second 60.\nUTC has no such second under the table in force.\nWhat is asked for lies before 1972 or past 9999 on its clock.\nThis is no request or a stamp without its clock. The clocks are UTC and TAI and TDT and GPS; help lists the requests.\nThe block ends too soon.\nA number of the block is not in its shortest form.\nThe leap table is not right or none is loaded; or its last entry lies after the month that it is to be vouched for.\nThe block goes on behind its last entry.\nThis is no pair of a midnight and a fraction.\nThe file is no leap-seconds kernel or is longer than 65536 bytes.\nA line of the file is no TP card or its date is out of order.\nThe line has over 1024 bytes.\nA number of seconds looks like 90.5 or -3 with up to 12 digits and six behind the point.\nA name has no comma and no quote in it.\nA month looks like 2026-12 and is not before 1972-01.\nA refusal has a number from 1 to 15.\nA block is written as pairs of hex digits.\nThe file cannot be read.\nThe file is longer than 65536 bytes.\n";
 
-const ADVICE: [u8; 635] =
-    *b"-\nLend a longer one. This program never gives it.\nWrite it so; behind its clock and one blank.\nCheck the year.\nCheck the date; February 29 is in leap years only.\nCheck the time and the clock in front of it.\nCheck the stamp; if it is right then load a newer table.\nAsk for another clock or a smaller step.\nPut the clock in front of each stamp; help lists the requests.\nCopy it again from its beginning to its end.\nAsk whoever sent the block for a new one.\nLoad a right table; or give a later month.\nCopy the block alone.\nGive a midnight that ends in .5 and a fraction below 1.\nLook at the byte that is named; or ask for the file again.\n";
+const ADVICE: [u8; 718] =
+    *b"-\nLend a longer one. This program never gives it.\nWrite it so; behind its clock and one blank.\nCheck the year.\nCheck the date; February 29 is in leap years only.\nCheck the time and the clock in front of it.\nCheck the stamp; if it is right then load a newer table.\nAsk for another clock or a smaller step.\nPut the clock in front of each stamp; help lists the requests.\nCopy it again from its beginning to its end.\nAsk whoever sent the block for a new one.\nLoad a right table; or give a later month.\nCopy the block alone.\nGive a midnight that ends in .5 and a fraction below 1.\nLook at the byte that is named; or ask for the file again.\nLook at the line that begins at the byte that is named; or ask for the file again.\n";
 
 const MONTHS: [u8; 88] =
     *b"-\nJanuary\nFebruary\nMarch\nApril\nMay\nJune\nJuly\nAugust\nSeptember\nOctober\nNovember\nDecember\n";
 
-const HELP: [u8; 427] =
-    *b"between UTC 2016-12-31T23:58:30 and UTC 2017-01-01T00:01:30\nshow UTC 2016-12-31T23:59:60 on GPS\nafter UTC 2016-12-31T23:59:59\nadd 90.5 to UTC 2016-12-31T23:58:30\npass AURORA-3 from UTC 2016-12-31T23:58:30 to UTC 2017-01-01T00:01:30\ntable\ntable kernel FILE\ntable block HEX\nvouched 2026-12\nwhy 6\nhelp\nclocks: UTC TAI TDT GPS\npictures: 1987-04-12T16:31:12 1987-102T16:31:12 1986 APR 12 16:31:09 and up to six digits behind a point";
+const HELP: [u8; 444] =
+    *b"between UTC 2016-12-31T23:58:30 and UTC 2017-01-01T00:01:30\nshow UTC 2016-12-31T23:59:60 on GPS\nafter UTC 2016-12-31T23:59:59\nadd 90.5 to UTC 2016-12-31T23:58:30\npass AURORA-3 from UTC 2016-12-31T23:58:30 to UTC 2017-01-01T00:01:30\ntable\ntable kernel FILE\ntable cards FILE\ntable block HEX\nvouched 2026-12\nwhy 6\nhelp\nclocks: UTC TAI TDT GPS\npictures: 1987-04-12T16:31:12 1987-102T16:31:12 1986 APR 12 16:31:09 and up to six digits behind a point";
 
 // ---- texts
 
@@ -124,19 +124,19 @@ pub fn up_to(s: &[u8], word: &[u8]) -> usize
 
 // ---- the refusals in words
 
-fn names() -> [u8; 84]
+fn names() -> [u8; 89]
     ensures { λ r. ⌜ r ≡ Texts·names ⌝ }
 {
     NAMES
 }
 
-fn sentences() -> [u8; 1379]
+fn sentences() -> [u8; 1478]
     ensures { λ r. ⌜ r ≡ Texts·sentences ⌝ }
 {
     SENTENCES
 }
 
-fn advice() -> [u8; 635]
+fn advice() -> [u8; 718]
     ensures { λ r. ⌜ r ≡ Texts·advice ⌝ }
 {
     ADVICE
@@ -148,7 +148,7 @@ fn months() -> [u8; 88]
     MONTHS
 }
 
-fn help() -> [u8; 427]
+fn help() -> [u8; 444]
     ensures { λ r. ⌜ r ≡ Texts·help ⌝ }
 {
     HELP

@@ -41,6 +41,8 @@ use Rattle.block.specs.Promise.{Bytes}
 use Rattle.block.proofs.Promise.{blocks}
 use Rattle.kernel.specs.Reading.{readKernel}
 use Rattle.kernel.proofs.Promise.{kernels}
+use Rattle.cards.specs.Reading.{readCards}
+use Rattle.cards.proofs.Promise.{cards}
 use Rattle.digits.specs.Bytes.{ascii}
 use Rattle.digits.specs.declared.Number.{Number}
 use Rattle.digits.specs.declared.Number.the-variants.{Is, Bad}
@@ -55,7 +57,7 @@ use Rattle.stampwords.specs.Stamps.{clockOf, stampRead}
 use Rattle.stampwords.proofs.Stamps.{read-accepted}
 use Rattle.stampwords.specs.Spans.{stepsBetween, stepsInOrder, stepsText, spanOf, betweenAnswer, betweenReply, realName, cell, sheetRow, passAnswer, passReply}
 use Rattle.stampwords.proofs.Spans.{span-of-two}
-use Rattle.tablewords.specs.Loading.{Load, taking, leaving, loadedAs, loadedBy, isHex, loadBlock, loadKernel, monthGiven, vouchedBy, vouch}
+use Rattle.tablewords.specs.Loading.{Load, taking, leaving, loadedAs, loadedBy, isHex, loadBlock, loadKernel, loadCards, monthGiven, vouchedBy, vouch}
 use Rattle.wording.specs.Wording.{requested, judged, answered}
 use Rattle.promises.specs.Desk.{offsetOn, Elapsed, Between, ReadOnUtc, markOf, OnTheDesk, Loading, DeskAnswers}
 
@@ -233,6 +235,17 @@ kernel-replaces given readable file =
     (λ e. loaded-replaces given r (λ g. let w = kernels .reads file .gives-a-table (r .table) .0 g in let v = w .1 .1 .1 in ap accepted (sym (v .1)) ∙ v .0 .is-accepted))
     (λ e. loses)
 
+-- cards that give a table give an accepted one
+cards-accepted : (file : List ℕ) → tableResults (readCards file) ≡ (0, 0, readCards file .table) → accepted (readCards file .table) ≡ true
+cards-accepted file g = cards .reads file .gives-a-table (readCards file .table) .0 g .1 .is-accepted
+
+cards-replaces : (given : List ℕ) (readable : Bool) (file : List ℕ) → Replaces (loadCards given readable file)
+unfolding loadCards
+cards-replaces given readable file =
+    pick Replaces readable
+    (λ e. pick Replaces (leb (length file) 65536) (λ f. loaded-replaces given (readCards file) (cards-accepted file)) (λ f. loses))
+    (λ e. loses)
+
 vouch-keeps : (t : Table) (month : List ℕ) → Keeps t (vouch t month)
 unfolding vouch
 vouch-keeps t month = go (monthGiven month)
@@ -247,17 +260,23 @@ module _ (t : Table) (readable : Bool) (file line : List ℕ) where
   requested-keeps =
       pick (Keeps t) (beginsWith (ascii "table block ") line) (λ e. replaced t (block-replaces (drop 12 line)))
       (λ e. pick (Keeps t) (beginsWith (ascii "table kernel ") line) (λ f. replaced t (kernel-replaces (drop 13 line) readable file))
-      (λ f. pick (Keeps t) (beginsWith (ascii "vouched ") line) (λ g. vouch-keeps t (drop 8 line)) (λ g. stays t)))
+      (λ f. pick (Keeps t) (beginsWith (ascii "table cards ") line) (λ g. replaced t (cards-replaces (drop 12 line) readable file))
+      (λ g. pick (Keeps t) (beginsWith (ascii "vouched ") line) (λ h. vouch-keeps t (drop 8 line)) (λ h. stays t))))
 
   judged-keeps : Keeps t (judged t readable file line)
   unfolding judged
   judged-keeps = pick (Keeps t) (leb (length line) 1024) (λ e. requested-keeps) (λ e. stays t)
 
-  requested-loses : (beginsWith (ascii "table block ") line ≡ true) ⊎ (beginsWith (ascii "table kernel ") line ≡ true) → Replaces (requested t readable file line)
+  requested-loses : (beginsWith (ascii "table block ") line ≡ true) ⊎ ((beginsWith (ascii "table kernel ") line ≡ true) ⊎ (beginsWith (ascii "table cards ") line ≡ true))
+      → Replaces (requested t readable file line)
   unfolding requested
   requested-loses (inl e) = rw e (block-replaces (drop 12 line))
-  requested-loses (inr f) =
+  requested-loses (inr (inl f)) =
       pick Replaces (beginsWith (ascii "table block ") line) (λ e. block-replaces (drop 12 line)) (λ e. rw f (kernel-replaces (drop 13 line) readable file))
+  requested-loses (inr (inr g)) =
+      pick Replaces (beginsWith (ascii "table block ") line) (λ e. block-replaces (drop 12 line))
+      (λ e. pick Replaces (beginsWith (ascii "table kernel ") line) (λ f. kernel-replaces (drop 13 line) readable file)
+      (λ f. rw g (cards-replaces (drop 12 line) readable file)))
 
   judged-loses : Loading line → judged t readable file line .reply .good ≡ false → judged t readable file line .table ≡ noTable
   unfolding judged

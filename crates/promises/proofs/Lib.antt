@@ -10,6 +10,8 @@ pub mod Stamps
 pub mod Text
 pub mod Blocks
 pub mod Kernels
+pub mod CardRows
+pub mod Cards
 pub mod Vouched
 pub mod Clock
 pub mod Julian

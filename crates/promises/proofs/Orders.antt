@@ -46,6 +46,7 @@ use Rattle.clock.specs.Promise.{lastLabel, ended}
 use Rattle.clock.proofs.Promise.{all-tick}
 use Rattle.block.specs.Blocks.{blockOf, blockTests}
 use Rattle.kernel.specs.Writing.{kernelOf, kernelTests}
+use Rattle.cards.specs.Writing.{cardsOf, cardTests}
 use Rattle.pictures.specs.declared.Date.{Date}
 use Rattle.pictures.specs.declared.Date.the-variants.{Numbered, OfYear, Named}
 use Rattle.pictures.specs.declared.Fields.{Fields}
@@ -233,6 +234,7 @@ module _ (t : Table) where
         read-julian = read-julian;
         write-block = λ buffer. refusing-map (λ a. writtenResults a .0) NotWritten (roomLast (blockTests t) (blockOf t) buffer) (Wrote (length (blockOf t)));
         write-kernel = λ buffer. refusing-map (λ a. writtenResults a .0) NotWritten (roomLast (kernelTests t) (kernelOf t) buffer) (Wrote (length (kernelOf t)));
+        write-cards = λ buffer. refusing-map (λ a. writtenResults a .0) NotWritten (roomLast (cardTests t) (cardsOf t) buffer) (Wrote (length (cardsOf t)));
         start-the-clock = refusing-map (λ a. tickResults a .0) NoTick (startTests t) (Next (label 1972 1 1 0 0 0));
         tick-the-clock = tick-the-clock;
       }
@@ -248,6 +250,7 @@ orders =
       read-julian = λ t k p. refl;
       write-block = λ t buffer. refl;
       write-kernel = λ t buffer. refl;
+      write-cards = λ t buffer. refl;
       start-the-clock = λ t. refl;
       tick-the-clock = λ t l. refl;
     }

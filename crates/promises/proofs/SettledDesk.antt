@@ -103,7 +103,8 @@ file-inside : (line : List ℕ) → partIn line (fileOf line)
 unfolding fileOf
 file-inside line =
     pick (partIn line) (leb (length line) 1024)
-    (λ e. pick (partIn line) (beginsWith (ascii "table kernel ") line) (λ f. (omega arith, omega arith)) (λ f. (omega arith, omega arith)))
+    (λ e. pick (partIn line) (beginsWith (ascii "table kernel ") line) (λ f. (omega arith, omega arith))
+    (λ f. pick (partIn line) (beginsWith (ascii "table cards ") line) (λ g. (omega arith, omega arith)) (λ g. (omega arith, omega arith))))
     (λ e. (omega arith, omega arith))
 
 settled-phrases : SettledPhrases
@@ -146,6 +147,7 @@ settled-tablewords =
       put-words = λ t out at k. put-alone;
       load-block = λ hex out at k. loads-alone;
       load-kernel = λ given readable file out at k. loads-alone;
+      load-cards = λ given readable file out at k. loads-alone;
       vouch = λ t month out at k. loads-alone;
     }
 

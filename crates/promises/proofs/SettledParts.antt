@@ -15,9 +15,10 @@ use Rattle.laws.specs.Placed.{place}
 use Rattle.digits.specs.Bytes.{endOf, appended, Counts, Appended}
 use Rattle.digits.proofs.Bytes.{room-yes, room-no}
 use Rattle.digits.proofs.Decimals.{value-most}
-use Rattle.lines.specs.Words.{before, past, lineOf, lineStart}
+use Rattle.lines.specs.Words.{before, isBlank, past, lineOf, lineStart}
 use Rattle.lines.specs.Cuts.{cutAt}
 use Rattle.lines.specs.Pairs.{nibble}
+use Rattle.lines.proofs.Words.{leading-short}
 use Rattle.lines.proofs.Lines.{line-next}
 use Rattle.fields.specs.declared.Cursor.{Cursor}
 use Rattle.fields.specs.declared.U32Field.{U32Field}
@@ -63,6 +64,7 @@ settled-tables count months offsets vouched =
       tabled = λ k. equal;
       found = λ k. equal;
       is-accepted = λ k. equal;
+      judge = λ k. equal;
       offset-at = λ m k. equal;
       near = λ m k. equal;
       asked = λ scale k. equal;
@@ -99,6 +101,10 @@ few-before b (x ∷ s) = go (eqb x b) (few-before b s)
     go : (t : Bool) → length (before b s) ≤ length s → length (cond t [] (x ∷ before b s)) ≤ length (x ∷ s)
     go true h = omega arith
     go false h = omega arith
+
+-- so many bytes behind `from` end within the text, where that begins there
+within : (s : List ℕ) (from n : ℕ) → n ≤ length (drop from s) → (from ≤ length s → from + n ≤ length s) × (from ≤ from + n)
+within s from n h = (λ f. omega (arith, h, length-drop from s), omega arith)
 
 -- the front of a list ends within it
 front-counts : (n : ℕ) (s : List ℕ) → Counts (min n (length s)) s
@@ -153,16 +159,21 @@ settled-bytes =
       is-digit = λ b k. equal;
       digit-value = λ b k. following (λ r. r ≤ 9) (value-most b);
       decimal = λ word most k. equal;
+      with-sign = λ minus n k. equal;
       magnitude = λ z k. equal;
       digits = λ n k. equal;
       month-name = λ m k. equal;
       month-named = λ a b c k. equal;
       write-fields = λ f out k. each;
       read-fields = λ text k. equal;
-      until = λ s from b k.
-          let few : length (before b (drop from (s .now))) ≤ length (drop from (s .now)) = few-before b (drop from (s .now)) in
-          following (λ r. (from ≤ length (s .now) → r ≤ length (s .now)) × (from ≤ r)) ((λ h. omega (arith, few, length-drop from (s .now)), omega arith));
+      until = λ s from b k. following (λ r. (from ≤ length (s .now) → r ≤ length (s .now)) × (from ≤ r)) (within (s .now) from _ (few-before b (drop from (s .now))));
+      past-blanks = λ s from k.
+          following (λ r. (from ≤ length (s .now) → r ≤ length (s .now)) × (from ≤ r)) (within (s .now) from _ (leading-short isBlank (drop from (s .now))));
       past = λ s from b k. following (λ r. r ≤ length (s .now)) (omega arith);
+      all-blank = λ s k. equal;
+      passed-over = λ line k. equal;
+      decimal-in = λ s k. equal;
+      whole = λ number places k. equal;
       line-start = λ s n k. following (λ r. (before 10 (drop r (s .now)) ≡ lineOf (s .now) n) × (r ≤ length (s .now))) (starts-line (s .now) n);
       front = λ s n k.
           record { asks-nothing = tt; allows-it-alone = λ r. (λ p. p .1, λ p. (subst (λ (x : ℕ). Counts x (s .now)) (sym p) (front-counts n (s .now)), p)) };

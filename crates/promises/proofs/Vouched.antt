@@ -4,12 +4,12 @@ use mathlib.Core.Path.{_≡_, refl, sym, ap, ap₂, subst, _∙_}
 use mathlib.Core.Logic.{_↔_}
 use mathlib.Core.Bool.{Bool, true, false, cond, _&&_, true≢false}
 use mathlib.Core.List.{List}
-use Prim.Native.Nat.{ℕ}
+use Prim.Native.Nat.{ℕ, _≤_}
 use borrow.Author.Tests.{eqb-true}
 use lib.Dec.{eqb, leb, ltb}
 use lib.IntN.{ℤ, pos}
 use lib.ListN.{length, take}
-use Rattle.laws.specs.Tests.{eqZ, allBelow}
+use Rattle.laws.specs.Tests.{eqZ, allBelow, All}
 use Rattle.laws.proofs.Cases.{pick}
 use Rattle.answer.specs.declared.Written.{Written}
 use Rattle.answer.specs.declared.Written.the-variants.{Wrote, Refused as NotWritten}
@@ -17,12 +17,13 @@ use Rattle.answer.specs.Buffers.{writtenResults}
 use Rattle.answer.proofs.Orders.{number-some}
 use Rattle.months.specs.Months.{leapYear, monthLength, daysBefore}
 use Rattle.leap.specs.declared.Table.{Table}
-use Rattle.leap.specs.Leap.{withoutMonth, vouchedRight, oneApart, placeRight, accepted, lastBegun, offsetIn, beyond}
+use Rattle.leap.specs.Leap.{vouchedTo, withoutMonth, vouchedRight, oneApart, placeRight, accepted, lastBegun, offsetIn, beyond}
 use Rattle.leap.specs.Entries.{tableOf, Good}
 use Rattle.leap.specs.declared.TableRead.{TableRead}
 use Rattle.leap.specs.Readers.{tableResults}
 use Rattle.leap.specs.Outcomes.{Outcome, entered, fault, tableRead}
 use Rattle.leap.proofs.Vouched.{vouched, without-month}
+use Rattle.leap.proofs.Entries.{entries-same}
 use Rattle.labels.specs.declared.Label.{Label}
 use Rattle.labels.specs.declared.Reading.{Reading}
 use Rattle.labels.specs.Labels.{label, at, monthOf, lastMinute, minuteIn, realYear, realMonth, realDay, realClock, hasSecond}
@@ -56,6 +57,11 @@ use Rattle.kernel.specs.Reading.{verdict, readKernel}
 use Rattle.kernel.specs.Writing.{kernelOf}
 use Rattle.kernel.specs.Promise.{GivesTable as KernelGives}
 use Rattle.kernel.proofs.Promise.{kernels}
+use Rattle.cards.proofs.Storing.{cards-same}
+use Rattle.cards.specs.Card.{lastCardMonth}
+use Rattle.cards.specs.Writing.{cardsOf}
+use Rattle.cards.specs.Promise.{GivesTable as CardsGive, InYears}
+use Rattle.cards.proofs.Promise.{cards, no-month as cards-none}
 use Rattle.text.specs.declared.TextAnswer.{TextAnswer}
 use Rattle.text.specs.declared.TextAnswer.the-variants.{Read, Refused as NoText}
 use Rattle.pictures.specs.Reading.{readFields}
@@ -240,6 +246,7 @@ module _ (t : Table) where
           clock-ticks = λ l. rw passes refl;
           write-block = λ buffer. (rw (passes, sym (blocks .drops-the-month 0 t)) refl, rw (passes, sym (blocks .drops-the-month 0 t)) refl);
           write-kernel = λ buffer. (rw (passes, sym (kernels .drops-the-month 0 t)) refl, rw (passes, sym (kernels .drops-the-month 0 t)) refl);
+          write-cards = λ buffer. (rw (passes, sym (cards-same 0 t), sym (entries-same 0 t)) refl, rw (passes, sym (cards-same 0 t), sym (entries-same 0 t)) refl);
         }
 
 -- ---- what is read has no month
@@ -309,6 +316,9 @@ module _ (t : Table) (ok : accepted t ≡ true) (full : FullLength t) where
   kernel-back : KernelGives (kernelOf t) (withoutMonth t)
   kernel-back = subst (λ s. KernelGives s (withoutMonth t)) (kernels .drops-the-month 0 t) (kernels .reads-back (withoutMonth t) unvouched-good)
 
+  cards-back : InYears t → CardsGive (cardsOf t) (withoutMonth t)
+  cards-back y = subst (λ s. CardsGive s (withoutMonth t)) (cards-same 0 t) (cards .reads-back (withoutMonth t) unvouched-good (subst (All (λ e. e .0 ≤ lastCardMonth)) (sym (entries-same 0 t)) y))
+
 beside : (t : Table) → Beside t
 beside t =
     record {
@@ -331,7 +341,9 @@ request-a2 =
       same-answers = same-answers;
       block-reads-back = block-back;
       kernel-reads-back = kernel-back;
+      cards-read-back = cards-back;
       none-in-a-block = λ s. block-none (inBlock s);
       none-in-a-kernel = kernel-none;
+      none-in-cards = cards-none;
       rows = desk;
     }

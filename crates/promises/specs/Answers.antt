@@ -51,7 +51,7 @@ pub record ZeroInTheRest (why : Refusal) : Type 0 where
   pub a-label : labelNumbers (NoTick why) ≡ (number why, replicate 6 0)
   pub a-text : textNumbers (NoText why) ≡ (number why, pos 0, replicate 8 0)
   pub a-pair : pairNumbers (NoDate why) ≡ (number why, fin false 0 (pos 0), fin false 0 (pos 0))
-  -- a block has its place too; in C its table is 130 words
+  -- a block, a kernel and cards have their place too; in C their table is 130 words
   pub a-block : (place : ℕ) → tableResults (refusedAt why place) ≡ (number why, place, noTable)
   pub a-block-in-c : (place : ℕ) → tableNumbers (refusedAt why place) ≡ (number why, place, replicate 130 0)
 

@@ -83,7 +83,7 @@ OnTheDesk = (t : Table) (a b : List ℕ) (x y : ℤ) (z w : Stamp) → ReadOnUtc
 -- a line of up to 1,024 bytes that loads a table
 pub record Loading (line : List ℕ) : Type 0 where
   pub short : length line ≤ 1024
-  pub loads : (beginsWith (ascii "table block ") line ≡ true) ⊎ (beginsWith (ascii "table kernel ") line ≡ true)
+  pub loads : (beginsWith (ascii "table block ") line ≡ true) ⊎ ((beginsWith (ascii "table kernel ") line ≡ true) ⊎ (beginsWith (ascii "table cards ") line ≡ true))
 
 -- `answered t readable file line` is the reply to a line under the table t, with the table from then on; `file` is what the file that the line names holds, if it can be read
 pub record DeskAnswers : Type 0 where
@@ -92,7 +92,7 @@ pub record DeskAnswers : Type 0 where
   -- an answer that is not good leaves the table as it was, or none: another than the two is never in force
   pub keeps-or-loses : (t : Table) (readable : Bool) (file line : List ℕ) → answered t readable file line .reply .good ≡ false
       → (answered t readable file line .table ≡ t) ⊎ (answered t readable file line .table ≡ noTable)
-  -- a line of a block or a kernel that is not good leaves none
+  -- a line of a block, a kernel or cards that is not good leaves none
   pub loses-the-table : (t : Table) (readable : Bool) (file line : List ℕ) → Loading line → answered t readable file line .reply .good ≡ false → answered t readable file line .table ≡ noTable
   -- where the table is accepted, so is the table from then on, if there is one
   pub stays-accepted : (t : Table) (readable : Bool) (file line : List ℕ) → accepted t ≡ true

@@ -1,6 +1,6 @@
 -- The scope's paragraph "Order": the tests of each call in one list, each with its refusal. `Orders` has the numbers of each list, to be held against the
 -- paper. `GivenExactly` says that the number which a call answers is that of the first test of its list that fails, and 0 where none does.
--- Reading a block or a kernel has no list: it answers the first fault from the left (`ReadsBlock` of `block`, `ReadsKernel` of `kernel`).
+-- Reading a block, a kernel or cards has no list: it answers the first fault from the left (`ReadsBlock` of `block`, `ReadsKernel` of `kernel`, `ReadsCards` of `cards`).
 -- Assumes nothing.
 use mathlib.Core.Path.{_≡_}
 use mathlib.Core.Logic.{_↔_}
@@ -18,6 +18,7 @@ use Rattle.answer.specs.Buffers.{writtenResults}
 use Rattle.calendar.specs.Days.{yearLength}
 use Rattle.leap.specs.declared.Table.{Table}
 use Rattle.leap.specs.Leap.{accepted, offsetAt}
+use Rattle.leap.specs.Entries.{entries}
 use Rattle.labels.specs.declared.Label.{Label}
 use Rattle.labels.specs.declared.Reading.{Reading}
 use Rattle.labels.specs.Labels.{whole, realYear, realMonth, realDay, realClock, hasSecond}
@@ -28,6 +29,7 @@ use Rattle.stamp.specs.Stamps.{instantOf, instantResults, stampOf, stampResults
 use Rattle.clock.specs.Clock.{start, tick, tickResults}
 use Rattle.block.specs.Blocks.{blockOf, writeBlock}
 use Rattle.kernel.specs.Writing.{kernelOf, writeKernel}
+use Rattle.cards.specs.Writing.{inCardYears, cardsOf, writeCards}
 use Rattle.pictures.specs.declared.Date.{Date}
 use Rattle.pictures.specs.declared.Date.the-variants.{Numbered, OfYear, Named}
 use Rattle.pictures.specs.declared.Fields.{Fields}
@@ -128,6 +130,11 @@ writeBlockTests t buffer = (accepted t, TABLE) ∷ (leb (length (blockOf t)) (le
 abbrev pub writeKernelTests : Table → List ℕ → List (Bool × Refusal)
 writeKernelTests t buffer = (accepted t, TABLE) ∷ (leb (length (kernelOf t)) (length buffer), ROOM) ∷ []
 
+-- `write_cards`
+abbrev pub writeCardsTests : Table → List ℕ → List (Bool × Refusal)
+writeCardsTests t buffer =
+    (accepted t, TABLE) ∷ (inCardYears (entries t), RANGE) ∷ (leb (length (cardsOf t)) (length buffer), ROOM) ∷ []
+
 -- `start`
 abbrev pub startTests : Table → List (Bool × Refusal)
 startTests t = (accepted t, TABLE) ∷ []
@@ -161,6 +168,7 @@ pub record Orders : Type 0 where
   pub read-julian : (t : Table) (k : ℕ) (p : JulianDate) → order (readJulianTests t k p) ≡ 8 ∷ 11 ∷ 13 ∷ 7 ∷ 7 ∷ []
   pub write-block : (t : Table) (buffer : List ℕ) → order (writeBlockTests t buffer) ≡ 11 ∷ 1 ∷ []
   pub write-kernel : (t : Table) (buffer : List ℕ) → order (writeKernelTests t buffer) ≡ 11 ∷ 1 ∷ []
+  pub write-cards : (t : Table) (buffer : List ℕ) → order (writeCardsTests t buffer) ≡ 11 ∷ 7 ∷ 1 ∷ []
   pub start-the-clock : (t : Table) → order (startTests t) ≡ 11 ∷ []
   pub tick-the-clock : (t : Table) (l : Label) → order (tickTests t l) ≡ 11 ∷ 3 ∷ 4 ∷ 5 ∷ 6 ∷ 7 ∷ []
 
@@ -176,6 +184,7 @@ pub record GivenExactly (t : Table) : Type 0 where
   pub read-julian : (k : ℕ) (p : JulianDate) → instantResults (readJulian t k p) .0 ≡ verdict (readJulianTests t k p)
   pub write-block : (buffer : List ℕ) → writtenResults (writeBlock t buffer) .0 ≡ verdict (writeBlockTests t buffer)
   pub write-kernel : (buffer : List ℕ) → writtenResults (writeKernel t buffer) .0 ≡ verdict (writeKernelTests t buffer)
+  pub write-cards : (buffer : List ℕ) → writtenResults (writeCards t buffer) .0 ≡ verdict (writeCardsTests t buffer)
   pub start-the-clock : tickResults (start t) .0 ≡ verdict (startTests t)
   pub tick-the-clock : (l : Label) → tickResults (tick t l) .0 ≡ verdict (tickTests t l)
 

@@ -16,6 +16,8 @@ use Rattle.block.specs.Blocks.{writeBlock, writeBlockAfter}
 use Rattle.block.specs.Reading.{readBlock}
 use Rattle.kernel.specs.Reading.{readKernel}
 use Rattle.kernel.specs.Writing.{writeKernel, writeKernelAfter}
+use Rattle.cards.specs.Reading.{readCards}
+use Rattle.cards.specs.Writing.{writeCards, writeCardsAfter}
 use Rattle.text.specs.Text.{writeTextAfter}
 use Rattle.text.specs.Marks.{readTextMarked, writeTextMarked}
 use Rattle.julian.specs.declared.JulianDate.{JulianDate}
@@ -27,6 +29,8 @@ use Rattle.block.proofs.read_block.Reads as block-read-block
 use Rattle.block.proofs.write_block.Reads as block-write-block
 use Rattle.kernel.proofs.read_kernel.Reads as kernel-read-kernel
 use Rattle.kernel.proofs.write_kernel.Reads as kernel-write-kernel
+use Rattle.cards.proofs.read_cards.Reads as cards-read-cards
+use Rattle.cards.proofs.write_cards.Reads as cards-write-cards
 use Rattle.stamp.proofs.instant_of.Reads as stamp-instant-of
 use Rattle.stamp.proofs.stamp_of.Reads as stamp-stamp-of
 use Rattle.text.proofs.read_text.Reads as text-read-text
@@ -48,6 +52,10 @@ pub record Settled : Type 0 where
   pub write-kernel : (t : Table) (out : Lent (List ℕ)) →
       Leaves kernel-write-kernel.Pre kernel-write-kernel.Post (t & out & tt) (λ bytes. t & out becomes bytes & tt)
       (writeKernel t (now out), writeKernelAfter t (now out))
+  pub read-cards : (s : Lent (List ℕ)) → Returns cards-read-cards.Pre cards-read-cards.Post (s & tt) (readCards (now s))
+  pub write-cards : (t : Table) (out : Lent (List ℕ)) →
+      Leaves cards-write-cards.Pre cards-write-cards.Post (t & out & tt) (λ bytes. t & out becomes bytes & tt)
+      (writeCards t (now out), writeCardsAfter t (now out))
   pub instant-of : (t : Table) (scale : ℕ) (r : Reading) → Returns stamp-instant-of.Pre stamp-instant-of.Post (t & scale & r & tt) (instantOfMarked t scale r)
   pub stamp-of : (t : Table) (instant : ℤ) (scale : ℕ) → Returns stamp-stamp-of.Pre stamp-stamp-of.Post (t & instant & scale & tt) (stampOfMarked t instant scale)
   pub read-text : (t : Table) (scale : ℕ) (text : Lent (List ℕ)) → Returns text-read-text.Pre text-read-text.Post (t & scale & text & tt) (readTextMarked t scale (now text))

@@ -21,7 +21,7 @@ use Rattle.stampwords.specs.Spans.{betweenReply, passReply}
 use Rattle.stampwords.specs.Moves.{showReply, afterReply, addReply}
 use Rattle.tablewords.specs.declared.Loaded.{Loaded}
 use Rattle.tablewords.specs.Words.{entriesText, tableWords}
-use Rattle.tablewords.specs.Loading.{Load, loadBlock, loadKernel, vouch as vouchFor}
+use Rattle.tablewords.specs.Loading.{Load, loadBlock, loadKernel, loadCards, vouch as vouchFor}
 use Rattle.wording.specs.Wording.{answered}
 use Rattle.wording.specs.Summary.{summaryText, fileOf}
 use Rattle.laws.specs.Settles.{_&_, Lent, _becomes_, Returns, Leaves}
@@ -47,6 +47,7 @@ use Rattle.tablewords.proofs.put_entries.Reads as tablewords-put-entries
 use Rattle.tablewords.proofs.put_words.Reads as tablewords-put-words
 use Rattle.tablewords.proofs.load_block.Reads as tablewords-load-block
 use Rattle.tablewords.proofs.load_kernel.Reads as tablewords-load-kernel
+use Rattle.tablewords.proofs.load_cards.Reads as tablewords-load-cards
 use Rattle.tablewords.proofs.vouch.Reads as tablewords-vouch
 use Rattle.wording.proofs.answer.Reads as wording-answer
 use Rattle.wording.proofs.file_of.Reads as wording-file-of
@@ -110,7 +111,7 @@ pub record SettledStampwords : Type 0 where
       Leaves stampwords-say-add.Pre stampwords-say-add.Post (t & line & by & given & out & at & tt) (λ after. t & line & by & given & out becomes after & at & tt)
       (saidAt (now out) at (addReply t (now line) (now by) (now given)))
 
--- a refused block or kernel leaves no table, a refused month the table as it was
+-- a refused block, kernel or file of cards leaves no table, a refused month the table as it was
 pub record SettledTablewords : Type 0 where
   pub put-entries : (t : Table) (out : Lent (List ℕ)) (at : ℕ) →
       Leaves tablewords-put-entries.Pre tablewords-put-entries.Post (t & out & at & tt) (λ after. t & out becomes after & at & tt) (putAt (now out) at (entriesText t))
@@ -122,6 +123,9 @@ pub record SettledTablewords : Type 0 where
   pub load-kernel : (given : Lent (List ℕ)) (readable : Bool) (file out : Lent (List ℕ)) (at : ℕ) →
       Leaves tablewords-load-kernel.Pre tablewords-load-kernel.Post (given & readable & file & out & at & tt) (λ after. given & readable & file & out becomes after & at & tt)
       (loadedAt (now out) at (loadKernel (now given) readable (now file)))
+  pub load-cards : (given : Lent (List ℕ)) (readable : Bool) (file out : Lent (List ℕ)) (at : ℕ) →
+      Leaves tablewords-load-cards.Pre tablewords-load-cards.Post (given & readable & file & out & at & tt) (λ after. given & readable & file & out becomes after & at & tt)
+      (loadedAt (now out) at (loadCards (now given) readable (now file)))
   pub vouch : (t : Table) (month out : Lent (List ℕ)) (at : ℕ) →
       Leaves tablewords-vouch.Pre tablewords-vouch.Post (t & month & out & at & tt) (λ after. t & month & out becomes after & at & tt)
       (loadedAt (now out) at (vouchFor t (now month)))

@@ -14,6 +14,8 @@ use Rattle.block.specs.Blocks.{writeBlock, writeBlockAfter}
 use Rattle.block.specs.Reading.{readBlock}
 use Rattle.kernel.specs.Reading.{readKernel}
 use Rattle.kernel.specs.Writing.{writeKernel, writeKernelAfter}
+use Rattle.cards.specs.Reading.{readCards}
+use Rattle.cards.specs.Writing.{writeCards, writeCardsAfter}
 use Rattle.text.specs.Text.{writeTextAfter}
 use Rattle.text.specs.Marks.{readTextMarked, writeTextMarked}
 use Rattle.julian.specs.Marks.{writeJulianMarked, readJulianMarked}
@@ -28,6 +30,8 @@ use Rattle.mundreff.proofs.mundreff_read_block.Reads as c-read-block
 use Rattle.mundreff.proofs.mundreff_write_block.Reads as c-write-block
 use Rattle.mundreff.proofs.mundreff_read_kernel.Reads as c-read-kernel
 use Rattle.mundreff.proofs.mundreff_write_kernel.Reads as c-write-kernel
+use Rattle.mundreff.proofs.mundreff_read_cards.Reads as c-read-cards
+use Rattle.mundreff.proofs.mundreff_write_cards.Reads as c-write-cards
 use Rattle.mundreff.proofs.mundreff_instant_of.Reads as c-instant-of
 use Rattle.mundreff.proofs.mundreff_stamp_of.Reads as c-stamp-of
 use Rattle.mundreff.proofs.mundreff_read_text.Reads as c-read-text
@@ -55,6 +59,12 @@ pub record SettledInC : Type 0 where
   pub write-kernel : (table out : Lent (List ℕ)) (length : Lent ℕ) →
       LeavesTwo c-write-kernel.Pre c-write-kernel.Post (table & out & length & tt) (λ n bytes. table & out becomes bytes & length becomes n & tt)
       (also (writtenResults (writeKernel (tableFrom (now table)) (now out))) (writeKernelAfter (tableFrom (now table)) (now out)))
+  pub read-cards : (file : Lent (List ℕ)) (place : Lent ℕ) (table : Lent (List ℕ)) →
+      LeavesTwo c-read-cards.Pre c-read-cards.Post (file & place & table & tt) (λ at words. file & place becomes at & table becomes words & tt)
+      (tableNumbers (readCards (now file)))
+  pub write-cards : (table out : Lent (List ℕ)) (length : Lent ℕ) →
+      LeavesTwo c-write-cards.Pre c-write-cards.Post (table & out & length & tt) (λ n bytes. table & out becomes bytes & length becomes n & tt)
+      (also (writtenResults (writeCards (tableFrom (now table)) (now out))) (writeCardsAfter (tableFrom (now table)) (now out)))
   pub instant-of : (table stamp : Lent (List ℕ)) (instant : Lent ℤ) (marks : Lent ℕ) →
       LeavesTwo c-instant-of.Pre c-instant-of.Post (table & stamp & instant & marks & tt) (λ x m. table & stamp & instant becomes x & marks becomes m & tt)
       (instantWithMarks (instantOfMarked (tableFrom (now table)) (scaleFrom (now stamp)) (readingFrom (now stamp))))

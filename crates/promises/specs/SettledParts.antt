@@ -12,15 +12,17 @@ use Rattle.answer.specs.declared.Refusal.{Refusal}
 use Rattle.answer.specs.Refusals.{number}
 use Rattle.answer.specs.Marks.{marks}
 use Rattle.answer.specs.Buffers.{written, bufferAfter}
+use Rattle.columns.specs.Columns.{allBlank, passedOver}
+use Rattle.columns.specs.Decimals.{decimalIn, wholeOf}
 use Rattle.digits.specs.Bytes.{endOf, appended}
-use Rattle.digits.specs.Decimals.{isDigit, digitValue, digitsOf, decimalOf, decimalText, signedText}
+use Rattle.digits.specs.Decimals.{isDigit, digitValue, digitsOf, signed, decimalOf, decimalText, signedText}
 use Rattle.digits.specs.Months.{monthName, monthNamed}
 use Rattle.months.specs.Months.{daysBefore, monthLength}
 use Rattle.calendar.specs.Days.{dayOfYear}
 use Rattle.calendar.specs.Dates.{spanOfDay, dateInYear}
 use Rattle.leap.specs.declared.Table.{Table}
 use Rattle.leap.specs.Leap.{tabled, vouchedTo, accepted, offsetAt, nearAt, beyond}
-use Rattle.leap.specs.Readers.{found, refusedAt}
+use Rattle.leap.specs.Readers.{found, refusedAt, judged as judgedTable}
 use Rattle.labels.specs.declared.Label.{Label}
 use Rattle.labels.specs.declared.Reading.{Reading}
 use Rattle.labels.specs.declared.Place.{Place}
@@ -42,7 +44,7 @@ use Rattle.automaton.specs.Step.{step}
 use Rattle.pictures.specs.declared.Fields.{Fields}
 use Rattle.pictures.specs.Pictures.{pictureText}
 use Rattle.pictures.specs.Reading.{readFields}
-use Rattle.lines.specs.Words.{before, past, lineStart}
+use Rattle.lines.specs.Words.{before, leading, isBlank, past, lineStart}
 use Rattle.lines.specs.Cuts.{pieceAt, cutAt, heldIn}
 use Rattle.lines.specs.Pairs.{nibble, hexOf, hexInto, hexShown}
 use Rattle.fields.specs.declared.Cursor.{Cursor}
@@ -59,6 +61,7 @@ use Rattle.digits.proofs.append.Reads as digits-append
 use Rattle.digits.proofs.is_digit.Reads as digits-is-digit
 use Rattle.digits.proofs.digit_value.Reads as digits-digit-value
 use Rattle.digits.proofs.decimal.Reads as digits-decimal
+use Rattle.digits.proofs.with_sign.Reads as digits-with-sign
 use Rattle.digits.proofs.digits.Reads as digits-digits
 use Rattle.digits.proofs.magnitude.Reads as digits-magnitude
 use Rattle.digits.proofs.append_unsigned.Reads as digits-append-unsigned
@@ -73,6 +76,7 @@ use Rattle.calendar.proofs.date_in_year.Reads as calendar-date-in-year
 use Rattle.leap.proofs.tabled.Reads as leap-tabled
 use Rattle.leap.proofs.found.Reads as leap-found
 use Rattle.leap.proofs.refused_at.Reads as leap-refused-at
+use Rattle.leap.proofs.judge.Reads as leap-judge
 use Rattle.leap.proofs.is_accepted_in.Reads as leap-is-accepted-in
 use Rattle.leap.proofs.beyond.Reads as leap-beyond
 use Rattle.leap.proofs.offset_at.Reads as leap-offset-at
@@ -116,7 +120,12 @@ use Rattle.kinds.proofs.capital.Reads as kinds-capital
 use Rattle.kinds.proofs.month_on.Reads as kinds-month-on
 use Rattle.kinds.proofs.month_number.Reads as kinds-month-number
 use Rattle.automaton.proofs.step.Reads as automaton-step
+use Rattle.columns.proofs.all_blank.Reads as columns-all-blank
+use Rattle.columns.proofs.passed_over.Reads as columns-passed-over
+use Rattle.columns.proofs.decimal_in.Reads as columns-decimal-in
+use Rattle.columns.proofs.whole.Reads as columns-whole
 use Rattle.lines.proofs.until.Reads as lines-until
+use Rattle.lines.proofs.past_blanks.Reads as lines-past-blanks
 use Rattle.lines.proofs.past.Reads as lines-past
 use Rattle.lines.proofs.line_start.Reads as lines-line-start
 use Rattle.lines.proofs.front.Reads as lines-front
@@ -178,6 +187,7 @@ module _ (count : ℕ) (months : Lent (List ℕ)) (offsets : Lent (List ℤ)) (v
     pub tabled : Returns leap-tabled.Pre leap-tabled.Post (count & months & offsets & vouched & tt) table
     pub found : Returns leap-found.Pre leap-found.Post (count & months & offsets & tt) (found entered)
     pub is-accepted : Returns leap-is-accepted-in.Pre leap-is-accepted-in.Post (count & months & offsets & vouched & tt) (accepted table)
+    pub judge : Returns leap-judge.Pre leap-judge.Post (count & months & offsets & tt) (judgedTable entered)
     pub offset-at : (m : ℕ) → Returns leap-offset-at.Pre leap-offset-at.Post (count & months & offsets & m & tt) (offsetAt entered m)
     pub near : (m : ℕ) → Returns leap-near.Pre leap-near.Post (count & months & offsets & m & tt) (nearAt entered m)
     pub asked : (scale : ℕ) → Returns stamp-asked.Pre stamp-asked.Post (count & months & offsets & vouched & scale & tt) (asked table scale)
@@ -204,6 +214,7 @@ pub record SettledBytes : Type 0 where
   pub is-digit : (b : ℕ) → Returns digits-is-digit.Pre digits-is-digit.Post (b & tt) (isDigit b)
   pub digit-value : (b : ℕ) → Returns digits-digit-value.Pre digits-digit-value.Post (b & tt) (digitValue b)
   pub decimal : (word : Lent (List ℕ)) (most : ℕ) → Returns digits-decimal.Pre digits-decimal.Post (word & most & tt) (decimalOf most (now word))
+  pub with-sign : (minus : Bool) (n : ℕ) → Returns digits-with-sign.Pre digits-with-sign.Post (minus & n & tt) (signed minus n)
   pub magnitude : (z : ℤ) → Returns digits-magnitude.Pre digits-magnitude.Post (z & tt) (natAbs z)
   pub digits : (n : ℕ) → Returns digits-digits.Pre digits-digits.Post (n & tt) (digitsOf 6 n)
   pub month-name : (month : ℕ) → Returns digits-month-name.Pre digits-month-name.Post (month & tt) (monthName month)
@@ -213,7 +224,12 @@ pub record SettledBytes : Type 0 where
       (written [] (pictureText f) (now out), bufferAfter [] (pictureText f) (now out))
   pub read-fields : (text : Lent (List ℕ)) → Returns pictures-read-fields.Pre pictures-read-fields.Post (text & tt) (readFields (now text))
   pub until : (s : Lent (List ℕ)) (from b : ℕ) → Returns lines-until.Pre lines-until.Post (s & from & b & tt) (from + length (before b (drop from (now s))))
+  pub past-blanks : (s : Lent (List ℕ)) (from : ℕ) → Returns lines-past-blanks.Pre lines-past-blanks.Post (s & from & tt) (from + length (leading isBlank (drop from (now s))))
   pub past : (s : Lent (List ℕ)) (from b : ℕ) → Returns lines-past.Pre lines-past.Post (s & from & b & tt) (past b (now s) from)
+  pub all-blank : (s : Lent (List ℕ)) → Returns columns-all-blank.Pre columns-all-blank.Post (s & tt) (allBlank (now s))
+  pub passed-over : (line : Lent (List ℕ)) → Returns columns-passed-over.Pre columns-passed-over.Post (line & tt) (passedOver (now line))
+  pub decimal-in : (s : Lent (List ℕ)) → Returns columns-decimal-in.Pre columns-decimal-in.Post (s & tt) (decimalIn (now s))
+  pub whole : (number places : ℕ) → Returns columns-whole.Pre columns-whole.Post (number & places & tt) (wholeOf number places)
   pub line-start : (s : Lent (List ℕ)) (k : ℕ) → Returns lines-line-start.Pre lines-line-start.Post (s & k & tt) (lineStart (now s) k)
   pub front : (s : Lent (List ℕ)) (n : ℕ) → Returns lines-front.Pre lines-front.Post (s & n & tt) (min n (length (now s)))
   pub hold : (line : Lent (List ℕ)) (held : ℕ) (piece : Lent (List ℕ)) →

@@ -33,6 +33,9 @@ use Rattle.block.specs.Reading.{readBlock}
 use Rattle.kernel.specs.Reading.{readKernel}
 use Rattle.kernel.specs.Writing.{kernelOf, writeKernel, writeKernelAfter}
 use Rattle.kernel.specs.Promise.{GivesTable as KernelGives}
+use Rattle.cards.specs.Reading.{readCards}
+use Rattle.cards.specs.Writing.{cardsOf, writeCards, writeCardsAfter}
+use Rattle.cards.specs.Promise.{GivesTable as CardsGive, InYears}
 use Rattle.text.specs.Text.{readText, writeText, writeTextAfter}
 use Rattle.text.specs.Marks.{readTextMarked, writeTextMarked}
 use Rattle.text.specs.Promise.{AcceptedAs}
@@ -91,9 +94,10 @@ pub record SameAnswers (t : Table) : Type 0 where
   pub read-julian : (k : ℕ) (p : JulianDate) → readJulian t k p ≡ readJulian (withoutMonth t) k p
   pub clock-starts : start t ≡ start (withoutMonth t)
   pub clock-ticks : (l : Label) → tick t l ≡ tick (withoutMonth t) l
-  -- so blocks and kernels drop it
+  -- so blocks, kernels and cards drop it
   pub write-block : (buffer : List ℕ) → (writeBlock t buffer ≡ writeBlock (withoutMonth t) buffer) × (writeBlockAfter t buffer ≡ writeBlockAfter (withoutMonth t) buffer)
   pub write-kernel : (buffer : List ℕ) → (writeKernel t buffer ≡ writeKernel (withoutMonth t) buffer) × (writeKernelAfter t buffer ≡ writeKernelAfter (withoutMonth t) buffer)
+  pub write-cards : (buffer : List ℕ) → (writeCards t buffer ≡ writeCards (withoutMonth t) buffer) × (writeCardsAfter t buffer ≡ writeCardsAfter (withoutMonth t) buffer)
 
 -- the rows by which the request was explained: Bulletin C with number 541, vouched for up to January 2017, and with 540, which is before its last entry
 abbrev pub until2017 : Table
@@ -115,7 +119,9 @@ pub record RequestA2 : Type 0 where
   -- what is written for a table with a month reads back as the table without it
   pub block-reads-back : (t : Table) → accepted t ≡ true → FullLength t → GivesTable (blockOf t) (withoutMonth t)
   pub kernel-reads-back : (t : Table) → accepted t ≡ true → FullLength t → KernelGives (kernelOf t) (withoutMonth t)
-  -- tables read from blocks and kernels have none given
+  pub cards-read-back : (t : Table) → accepted t ≡ true → FullLength t → InYears t → CardsGive (cardsOf t) (withoutMonth t)
+  -- tables read from blocks, kernels and cards have none given
   pub none-in-a-block : (s : List ℕ) → tableResults (readBlock s) .2 .vouched ≡ 0
   pub none-in-a-kernel : (s : List ℕ) → tableResults (readKernel s) .2 .vouched ≡ 0
+  pub none-in-cards : (s : List ℕ) → tableResults (readCards s) .2 .vouched ≡ 0
   pub rows : VouchedDesk

@@ -302,7 +302,7 @@ pub fn say_pass(t: Table, name: &[u8], a: &[u8], b: &[u8], out: &mut [u8], at: u
     ensures { λ r. ⌜ Says (now (out .entry)) at (passReply t (now (name .entry)) (now (a .entry)) (now (b .entry))) r (now (out .exit)) ⌝ }
 {
     if !real_name(name) {
-        return phrases::refuse_as(out, at, 8, 17, name);
+        return phrases::refuse_as(out, at, 8, 18, name);
     }
     match span_between(t, a, b) {
         SpanAnswer::Lasts(s) => Said {
@@ -421,6 +421,6 @@ pub fn say_add(t: Table, line: &[u8], by: &[u8], given: &[u8], out: &mut [u8], a
     match seconds::move_given(by) {
         Move::On(n) => say_moved(t, line, given, Move::On(n), clock_of(given), 6, out, at),
         Move::Back(n) => say_moved(t, line, given, Move::Back(n), clock_of(given), 6, out, at),
-        Move::NoMove => phrases::refuse_as(out, at, 8, 16, by),
+        Move::NoMove => phrases::refuse_as(out, at, 8, 17, by),
     }
 }

@@ -22,7 +22,8 @@ use Rattle.leap.specs.Leap.{vouchedTo, accepted}
 use Rattle.leap.specs.Readers.{noTable}
 use Rattle.block.specs.Reading.{readBlock}
 use Rattle.kernel.specs.Reading.{readKernel}
-use Rattle.phrases.specs.Texts.{refusalText, noMonth, noHex, noFile}
+use Rattle.cards.specs.Reading.{readCards}
+use Rattle.phrases.specs.Texts.{refusalText, noMonth, noHex, noFile, longFile}
 use Rattle.phrases.specs.Replies.{Reply, answering, refusingAs, refusal, Says}
 use Rattle.tablewords.specs.declared.Loaded.{Loaded}
 use Rattle.tablewords.specs.Words.{tableWords}
@@ -64,9 +65,20 @@ isHex s = leb (length s / 2) 512 && allPairs s
 unfoldable pub loadBlock : List ℕ → Load
 loadBlock hex = cond (isHex hex) (loadedBy hex (readBlock (paired hex))) (leaving noTable (refusingAs 8 noHex hex))
 
+-- a file of this name that is not read, refused with the number of its kind and a sentence
+abbrev pub notRead : ℕ → ℕ → List ℕ → Load
+notRead n sentence given = leaving noTable (refusingAs n sentence given)
+
 -- a file of this name, which can be read or not
 unfoldable pub loadKernel : List ℕ → Bool → List ℕ → Load
-loadKernel given readable file = cond readable (loadedBy given (readKernel file)) (leaving noTable (refusingAs 14 noFile given))
+loadKernel given readable file = cond readable (loadedBy given (readKernel file)) (notRead 14 noFile given)
+
+-- cards have no limit of their own, but no more of a file is read than a kernel may have
+unfoldable pub loadCards : List ℕ → Bool → List ℕ → Load
+loadCards given readable file =
+    cond readable
+    (cond (leb (length file) 65536) (loadedBy given (readCards file)) (notRead 15 longFile given))
+    (notRead 15 noFile given)
 
 -- ---- the month that it is vouched for
 

@@ -1,4 +1,4 @@
-// A leap table in words, and loaded anew: from a block in hex, from a kernel, or vouched for up to a month.
+// A leap table in words, and loaded anew: from a block in hex, from a kernel or cards, or vouched for up to a month.
 // Every public function is total.
 ghost use mathlib.Core.Path.{_≡_};
 ghost use Prim.Native.Nat.{_≤_, _<_, min};
@@ -8,7 +8,7 @@ ghost use Rattle.phrases.specs.Puts.{Puts};
 ghost use Rattle.phrases.specs.Replies.{Says};
 ghost use Rattle.leap.specs.Readers.{noTable};
 ghost use Rattle.tablewords.specs.Words.{dateText, offsetText, feed, entriesText, countText, vouchedWords, tableWords};
-ghost use Rattle.tablewords.specs.Loading.{taking, placedRefusal, loadedBy, loadBlock, loadKernel, monthNumber, monthGiven, vouch, Loads};
+ghost use Rattle.tablewords.specs.Loading.{taking, placedRefusal, loadedBy, loadBlock, notRead, loadKernel, loadCards, monthNumber, monthGiven, vouch, Loads};
 use answer::Refusal;
 use digits::Number;
 use leap::Table;
@@ -186,13 +186,24 @@ pub fn load_block(hex: &[u8], out: &mut [u8], at: usize) -> Loaded
     let Number::Is(n) = h else {
         let table = no_table();
         return Loaded {
-            said: phrases::refuse_as(out, at, 8, 20, hex),
+            said: phrases::refuse_as(out, at, 8, 21, hex),
             table,
         };
     };
     let k = lines::front(&bytes, n as usize);
     let read = block::read_block(&bytes[..k]);
     loaded_by(hex, read, out, at)
+}
+
+// Says why the file that `given` names is not read.
+fn not_read(given: &[u8], number: u32, sentence: u32, out: &mut [u8], at: usize) -> Loaded
+    ensures { λ r. ⌜ Loads (now (out .entry)) at (notRead number sentence (now (given .entry))) r (now (out .exit)) ⌝ }
+{
+    let table = no_table();
+    Loaded {
+        said: phrases::refuse_as(out, at, number, sentence, given),
+        table,
+    }
 }
 
 // Loads the table of a kernel: `given` names the file, which can be read or not.
@@ -202,11 +213,20 @@ pub fn load_kernel(given: &[u8], readable: bool, file: &[u8], out: &mut [u8], at
     if readable {
         return loaded_by(given, kernel::read_kernel(file), out, at);
     }
-    let table = no_table();
-    Loaded {
-        said: phrases::refuse_as(out, at, 14, 21, given),
-        table,
+    not_read(given, 14, 22, out, at)
+}
+
+// Loads the table of cards, of a file that is no longer than a kernel may be.
+pub fn load_cards(given: &[u8], readable: bool, file: &[u8], out: &mut [u8], at: usize) -> Loaded
+    ensures { λ r. ⌜ Loads (now (out .entry)) at (loadCards (now (given .entry)) readable (now (file .entry))) r (now (out .exit)) ⌝ }
+{
+    if !readable {
+        return not_read(given, 15, 22, out, at);
     }
+    if 65536 < file.len() {
+        return not_read(given, 15, 23, out, at);
+    }
+    loaded_by(given, cards::read_cards(file), out, at)
 }
 
 // ---- the month that a table is vouched for
@@ -252,7 +272,7 @@ pub fn vouch(t: Table, month: &[u8], out: &mut [u8], at: usize) -> Loaded
     let number = month_given(month);
     let Number::Is(v) = number else {
         return Loaded {
-            said: phrases::refuse_as(out, at, 8, 18, month),
+            said: phrases::refuse_as(out, at, 8, 19, month),
             table: t,
         };
     };

@@ -26,9 +26,19 @@ unfoldable pub summaryText : ℕ → ℕ → List ℕ → List ℕ
 summaryText lines bad first =
     decimalText (lines - bad) ++ (ascii " of " ++ (decimalText lines ++ (ascii " lines good" ++ (badText bad first ++ (10 ∷ [])))))
 
--- a kernel's file: behind `table kernel `; nothing where the line is none or too long
+-- ---- the part of a line that names a file
+
+-- behind its first n bytes
+abbrev pub partBehind : ℕ → List ℕ → Part
+partBehind n line = record { from = min n (length line); end = length line }
+
+abbrev pub noPart : Part
+noPart = record { from = 0; end = 0 }
+
+-- behind `table kernel ` or `table cards `; nothing where the line is neither, or too long
 unfoldable pub fileOf : List ℕ → Part
 fileOf line =
     cond (leb (length line) 1024)
-    (cond (beginsWith (ascii "table kernel ") line) (record { from = min 13 (length line); end = length line }) (record { from = 0; end = 0 }))
-    (record { from = 0; end = 0 })
+    (cond (beginsWith (ascii "table kernel ") line) (partBehind 13 line)
+    (cond (beginsWith (ascii "table cards ") line) (partBehind 12 line) noPart))
+    noPart

@@ -18,7 +18,7 @@ use Rattle.phrases.specs.Replies.{Reply, answering, refusingAs, refusal}
 use Rattle.stampwords.specs.Spans.{betweenReply, passReply}
 use Rattle.stampwords.specs.Moves.{showReply, afterReply, addReply}
 use Rattle.tablewords.specs.Words.{entriesText}
-use Rattle.tablewords.specs.Loading.{Load, leaving, loadBlock, loadKernel, vouch}
+use Rattle.tablewords.specs.Loading.{Load, leaving, loadBlock, loadKernel, loadCards, vouch}
 use Rattle.wording.specs.declared.Request.{Request}
 use Rattle.wording.specs.declared.Request.the-variants.{Between, Show, After, Add, Pass, Entries, Why, Help, Nothing, Unknown}
 use Rattle.wording.specs.Requests.{requestOf}
@@ -47,7 +47,7 @@ whyAnswer given Bad = refusingAs 8 noNumber given
 
 -- the number of a refusal
 unfoldable pub askWhy : List ℕ → Reply
-askWhy given = whyAnswer given (decimalOf 14 given)
+askWhy given = whyAnswer given (decimalOf 15 given)
 
 -- ---- a line
 
@@ -68,13 +68,14 @@ replyTo t line Help = answering help
 replyTo t line Nothing = answering []
 replyTo t line Unknown = refusal ASK line
 
--- `file` is what the file that a kernel's line names holds, if it can be read
+-- `file` is what the file that a line of a kernel or of cards names holds, if it can be read
 unfoldable pub requested : Table → Bool → List ℕ → List ℕ → Load
 requested t readable file line =
     cond (beginsWith (ascii "table block ") line) (loadBlock (rest "table block " line))
     (cond (beginsWith (ascii "table kernel ") line) (loadKernel (rest "table kernel " line) readable file)
+    (cond (beginsWith (ascii "table cards ") line) (loadCards (rest "table cards " line) readable file)
     (cond (beginsWith (ascii "vouched ") line) (vouch t (rest "vouched " line))
-    (leaving t (replyTo t line (requestOf line)))))
+    (leaving t (replyTo t line (requestOf line))))))
 
 -- a line of over 1,024 bytes is refused
 unfoldable pub judged : Table → Bool → List ℕ → List ℕ → Load

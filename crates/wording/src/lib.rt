@@ -9,7 +9,7 @@ ghost use Rattle.phrases.specs.Replies.{Says};
 ghost use Rattle.tablewords.specs.Loading.{Loads};
 ghost use Rattle.wording.specs.Requests.{plainRequest, requestOf};
 ghost use Rattle.wording.specs.Wording.{askBetween, askShow, askAdd, askPass, askNamed, askWhy, replyTo, requested, judged as Wording·judged, answered};
-ghost use Rattle.wording.specs.Summary.{numbersText, moreText, badText, summaryText, fileOf};
+ghost use Rattle.wording.specs.Summary.{numbersText, moreText, badText, summaryText, partBehind, fileOf};
 use answer::Refusal;
 use digits::Number;
 use leap::Table;
@@ -132,11 +132,11 @@ fn ask_named(t: Table, rest: &[u8], out: &mut [u8], at: usize) -> Said
 fn ask_why(given: &[u8], out: &mut [u8], at: usize) -> Said
     ensures { λ r. ⌜ Says (now (out .entry)) at (askWhy (now (given .entry))) r (now (out .exit)) ⌝ }
 {
-    let Number::Is(n) = digits::decimal(given, 14) else {
-        return phrases::refuse_as(out, at, 8, 19, given);
+    let Number::Is(n) = digits::decimal(given, 15) else {
+        return phrases::refuse_as(out, at, 8, 20, given);
     };
     if n < 1 {
-        return phrases::refuse_as(out, at, 8, 19, given);
+        return phrases::refuse_as(out, at, 8, 20, given);
     }
     Said {
         at: phrases::put_why(out, at, n as u32),
@@ -188,6 +188,10 @@ fn asked(line: &[u8], t: Table, readable: bool, file: &[u8], out: &mut [u8], at:
         let from = lines::front(line, 13);
         return tablewords::load_kernel(&line[from..], readable, file, out, at);
     }
+    if phrases::begins_with(line, b"table cards ") {
+        let from = lines::front(line, 12);
+        return tablewords::load_cards(&line[from..], readable, file, out, at);
+    }
     if phrases::begins_with(line, b"vouched ") {
         let from = lines::front(line, 8);
         return tablewords::vouch(t, &line[from..], out, at);
@@ -201,7 +205,7 @@ fn judged(line: &[u8], t: Table, readable: bool, file: &[u8], out: &mut [u8], at
 {
     if 1024 < line.len() {
         let k = lines::front(line, 40);
-        let said = phrases::refuse_as(out, at, 8, 15, &line[..k]);
+        let said = phrases::refuse_as(out, at, 8, 16, &line[..k]);
         return Loaded { said, table: t };
     }
     asked(line, t, readable, file, out, at)
@@ -228,6 +232,17 @@ pub fn answer(
     Loaded { said, table }
 }
 
+// The part of a line behind its first n bytes.
+fn part_behind(line: &[u8], n: usize) -> Part
+    ensures { λ r. ⌜ r ≡ partBehind n (now (line .entry)) ⌝ }
+{
+    let from = lines::front(line, n);
+    Part {
+        from,
+        end: line.len(),
+    }
+}
+
 // The part of a line that names the file to be read; no byte where it names none.
 pub fn file_of(line: &[u8]) -> Part
     ensures { λ r. ⌜ r ≡ fileOf (now (line .entry)) ⌝ }
@@ -237,11 +252,10 @@ pub fn file_of(line: &[u8]) -> Part
         return Part { from: 0, end: 0 };
     }
     if phrases::begins_with(line, b"table kernel ") {
-        let from = lines::front(line, 13);
-        return Part {
-            from,
-            end: line.len(),
-        };
+        return part_behind(line, 13);
+    }
+    if phrases::begins_with(line, b"table cards ") {
+        return part_behind(line, 12);
     }
     Part { from: 0, end: 0 }
 }

@@ -9,7 +9,7 @@ use denote.Ref.{now}
 use Rattle.leap.specs.declared.Table.{Table}
 use Rattle.leap.specs.Leap.{tabled}
 use Rattle.leap.proofs.Facts.{Accepted, accepted-to}
-use Rattle.kernel.proofs.Offsets.{small}
+use Rattle.leap.proofs.Offsets.{small}
 use Rattle.kernel.proofs.Storing.{Stored, front-placed, stored-first, long, line-long, line-fits, stored-more, stored-last}
 use Rattle.kernel.proofs.kernel_of.Statement.{statement}
 use Rattle.kernel.proofs.kernel_of.Tie as tie

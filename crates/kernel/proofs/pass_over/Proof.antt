@@ -5,7 +5,7 @@ use borrow.Author.Needs.{needs}
 use Rattle.automaton.specs.declared.Mode.the-variants.{Rest}
 use Rattle.automaton.specs.declared.Resting.the-variants.{Text}
 use Rattle.kernel.specs.Reading.{ReadsOn}
-use Rattle.kernel.proofs.Going.{text-passed, text-blanks, fresh-blanks, gap-blanks}
+use Rattle.kernel.proofs.Going.{text-passed, only-blanks, text-blanks, fresh-blanks, gap-blanks}
 use Rattle.kernel.proofs.pass_over.Statement.{statement}
 use Rattle.kernel.proofs.pass_over.Tie as tie
 
@@ -23,14 +23,14 @@ returns-2 : tie.Need-returns-2
 returns-2 c =
     let k = c .before .before .before in
     let a = k .before .before .before .before .args in
-    subst (λ r. ReadsOn (a .s .now) (Rest r) (a .i) (c .past-blanks .result)) (sym (k .before .rest .given .1 ∙ ap Text (c .before .if2 .taken))) (text-blanks (c .past-blanks .ensures))
+    subst (λ r. ReadsOn (a .s .now) (Rest r) (a .i) (c .past-blanks .result)) (sym (k .before .rest .given .1 ∙ ap Text (c .before .if2 .taken))) (text-blanks (only-blanks (k .before .before .before .before .pre) (c .past-blanks .ensures .0)))
 
 -- and in data
 returns-4 : tie.Need-returns-4
-returns-4 c = let a = c .before .before .before .before .args in subst (λ r. ReadsOn (a .s .now) (Rest r) (a .i) (c .past-blanks2 .result)) (sym (c .before .enum-told .given .1)) (fresh-blanks (c .past-blanks2 .ensures))
+returns-4 c = let a = c .before .before .before .before .args in subst (λ r. ReadsOn (a .s .now) (Rest r) (a .i) (c .past-blanks2 .result)) (sym (c .before .enum-told .given .1)) (fresh-blanks (only-blanks (c .before .before .before .before .pre) (c .past-blanks2 .ensures .0)))
 
 returns-5 : tie.Need-returns-5
-returns-5 c = let a = c .before .before .before .before .args in subst (λ r. ReadsOn (a .s .now) (Rest r) (a .i) (c .past-blanks3 .result)) (sym (c .before .enum-told2 .given .1)) (gap-blanks (c .past-blanks3 .ensures))
+returns-5 c = let a = c .before .before .before .before .args in subst (λ r. ReadsOn (a .s .now) (Rest r) (a .i) (c .past-blanks3 .result)) (sym (c .before .enum-told2 .given .1)) (gap-blanks (only-blanks (c .before .before .before .before .pre) (c .past-blanks3 .ensures .0)))
 
 pub pass-over-spec : {M : Type 1} → statement M
 pass-over-spec =

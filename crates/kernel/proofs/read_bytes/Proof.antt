@@ -10,7 +10,7 @@ use denote.Ref.{now}
 use mir.Facts.{toZ-ofZ}
 use borrow.Author.Needs.{needs}
 use Rattle.automaton.specs.Step.{step}
-use Rattle.kernel.proofs.Going.{Going, on-end, on-quiet, on-rest, on-ours, on-pair, on-full, on-dead}
+use Rattle.kernel.proofs.Going.{Going, only-blanks, on-end, on-quiet, on-rest, on-ours, on-pair, on-full, on-dead}
 use Rattle.kernel.proofs.read_bytes.Statement.{statement}
 use Rattle.kernel.proofs.read_bytes.Tie as tie
 
@@ -69,8 +69,8 @@ read-bytes-spec =
     -- enum-told-3, past-blanks-requires, loop-less-4, loop-again-4
     (λ c. search needs)
     (λ c κs. omega arith)
-    (λ c. omega (arith, c .past-blanks .ensures .later, c .past-blanks .ensures .inside))
-    (λ c. let n = c .before .before .before in on-ours (inv n) (turn n) (stepped n) (c .before .enum-told3 .given .1) (c .past-blanks .ensures))
+    (λ c. omega (arith, c .past-blanks .ensures .1))
+    (λ c. let n = c .before .before .before in on-ours (inv n) (turn n) (stepped n) (c .before .enum-told3 .given .1) (only-blanks (omega arith) (c .past-blanks .ensures .0)))
     -- enum-told-4, loop-less-5, loop-again-5
     (λ c. search needs)
     (λ c. omega arith)

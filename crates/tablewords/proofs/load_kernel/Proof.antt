@@ -20,9 +20,8 @@ returns c =
 returns-2 : tie.Need-returns-2
 unfolding loadKernel
 returns-2 c =
-    let r = c .before .before in
-    let n = r .before .before in
-    loads-as (cond-rest _ (n .before .if1 .left) refl) (record { says = r .refuse-as .ensures; table = n .no-table .ensures })
+    let n = c .before .before in
+    loads-as (cond-rest _ (n .before .before .if1 .left) refl) (n .not-read .ensures)
 
 pub load-kernel-spec : {M : Type 1} → statement M
 load-kernel-spec =
@@ -32,7 +31,6 @@ load-kernel-spec =
     (λ c κs. search needs)
     (λ c. search needs)
     returns
-    (λ c κs. search needs)
     (λ c κs. search needs)
     (λ c. search needs)
     returns-2)

@@ -1,4 +1,4 @@
--- A number from 1 to 14, or a refusal.
+-- A number from 1 to 15, or a refusal.
 -- Assumes nothing.
 use borrow.Author.Needs.{needs}
 use mathlib.Core.Path.{refl, sym, ap, subst, _∙_}
@@ -28,7 +28,7 @@ returns-2 c =
 cast-put-why : tie.Need-cast-put-why
 cast-put-why c =
     let n = c .before .before .before in
-    let h = subst (Within 14) (sym (c .before .before .before .before .before .decimal .ensures) ∙ n .n .given .1) (decimal-within 14 (c .before .before .before .before .before .before .before .before .args .given .now)) in
+    let h = subst (Within 15) (sym (c .before .before .before .before .before .decimal .ensures) ∙ n .n .given .1) (decimal-within 15 (c .before .before .before .before .before .before .before .before .args .given .now)) in
     record { fits = omega arith }
 
 returns-3 : tie.Need-returns-3

@@ -1,13 +1,13 @@
 -- Behind the words, where they stand.
 -- Assumes nothing.
 use borrow.Author.Needs.{needs}
-use mathlib.Core.Path.{refl, sym, ap, _∙_}
-use Prim.Native.Nat.{ℕ}
+use mathlib.Core.Path.{refl, sym, _∙_}
 use native.Mathlib.Omega.{arith}
 use borrow.Author.Tests.{le-leb, lt-leb}
 use lib.ListN.{length}
 use Rattle.laws.proofs.Branches.{cond-yes, cond-rest}
 use Rattle.wording.specs.Summary.{fileOf}
+use Rattle.wording.proofs.Wording.{part-inside}
 use Rattle.wording.proofs.file_of.Statement.{statement}
 use Rattle.wording.proofs.file_of.Tie as tie
 
@@ -20,15 +20,27 @@ unfolding fileOf
 returns-2 c =
     let s = c .before .before .before .before .before .before .args .line .now in
     let b = c .before .before .begins-with .ensures in
-    let e = c .front .ensures in
-    (cond-yes _ (le-leb (length s) 1024 (omega arith)) (cond-yes _ (sym b ∙ c .before .if2 .taken) (ap (λ (n : ℕ). record { from = n; end = length s }) (e .1))), (e .0 .0, omega arith))
+    let p = c .part-behind .ensures in
+    (cond-yes _ (le-leb (length s) 1024 (omega arith)) (cond-yes _ (sym b ∙ c .before .if2 .taken) p), part-inside 13 s p)
 
 returns-3 : tie.Need-returns-3
 unfolding fileOf
 returns-3 c =
-    let s = c .before .before .before .before .before .args .line .now in
-    let b = c .before .begins-with .ensures in
-    (cond-yes _ (le-leb (length s) 1024 (omega arith)) (cond-rest _ (sym b ∙ c .if2 .left) refl), (omega arith, omega arith))
+    let e = c .before .before .before .before in
+    let s = e .before .before .before .before .before .args .line .now in
+    let b = e .before .begins-with .ensures in
+    let d = c .before .before .begins-with2 .ensures in
+    let p = c .part-behind2 .ensures in
+    (cond-yes _ (le-leb (length s) 1024 (omega arith)) (cond-rest _ (sym b ∙ e .if2 .left) (cond-yes _ (sym d ∙ c .before .if3 .taken) p)), part-inside 12 s p)
+
+returns-4 : tie.Need-returns-4
+unfolding fileOf
+returns-4 c =
+    let e = c .before .before .before in
+    let s = e .before .before .before .before .before .args .line .now in
+    let b = e .before .begins-with .ensures in
+    let d = c .before .begins-with2 .ensures in
+    (cond-yes _ (le-leb (length s) 1024 (omega arith)) (cond-rest _ (sym b ∙ e .if2 .left) (cond-rest _ (sym d ∙ c .if3 .left) refl)), (omega arith, omega arith))
 
 pub file-of-spec : {M : Type 1} → statement M
 file-of-spec =
@@ -39,4 +51,8 @@ file-of-spec =
     (λ c κs. search needs)
     (λ c κs. search needs)
     returns-2
-    returns-3)
+    (λ c. search needs)
+    (λ c κs. search needs)
+    (λ c κs. search needs)
+    returns-3
+    returns-4)

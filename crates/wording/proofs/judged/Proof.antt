@@ -7,6 +7,7 @@ use Prim.Native.Nat.{ℕ}
 use borrow.Author.Tests.{le-leb, lt-leb}
 use lib.ListN.{length}
 use Rattle.laws.proofs.Branches.{cond-yes, cond-rest}
+use Rattle.phrases.specs.Texts.{longLine}
 use Rattle.phrases.specs.Replies.{refusingAs}
 use Rattle.tablewords.specs.Loading.{leaving}
 use Rattle.tablewords.proofs.Loading.{loads-as}
@@ -19,7 +20,7 @@ returns : tie.Need-returns
 unfolding judged
 returns c =
     let s = c .before .before .before .before .before .before .before .before .before .before .args .line .now in
-    loads-as (cond-rest _ (lt-leb (length s) 1024 (c .before .before .before .before .before .before .if1 .taken)) (ap (λ (g : List ℕ). leaving (c .before .before .before .before .before .before .before .before .before .before .args .t) (refusingAs 8 15 g)) (head-is 40 s (c .before .before .before .before .before .front .ensures .1))))
+    loads-as (cond-rest _ (lt-leb (length s) 1024 (c .before .before .before .before .before .before .if1 .taken)) (ap (λ (g : List ℕ). leaving (c .before .before .before .before .before .before .before .before .before .before .args .t) (refusingAs 8 longLine g)) (head-is 40 s (c .before .before .before .before .before .front .ensures .1))))
     (record { says = c .before .before .refuse-as .ensures; table = refl })
 
 returns-2 : tie.Need-returns-2

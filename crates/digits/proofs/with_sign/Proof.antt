@@ -10,8 +10,8 @@ use mir.Facts.{toZ-ofZ}
 use Rattle.laws.proofs.Branches.{cond-yes, cond-rest}
 use Rattle.laws.proofs.Difference.{diff-is, neg-is, eq-from}
 use Rattle.laws.proofs.Machine.{fits-from, one-side}
-use Rattle.kernel.proofs.with_sign.Statement.{statement}
-use Rattle.kernel.proofs.with_sign.Tie as tie
+use Rattle.digits.proofs.with_sign.Statement.{statement}
+use Rattle.digits.proofs.with_sign.Tie as tie
 
 module _ (n : ℕ) (h : n < 65536) where
   plain : toZ w32 n ≡ pos n

@@ -1,0 +1,12 @@
+pub mod Fields
+pub mod Turned
+pub mod Dates
+pub mod Seconds
+pub mod Found
+pub mod Orders
+pub mod Going
+pub mod Files
+pub mod Years
+pub mod Storing
+pub mod Written
+pub mod Promise
