@@ -13,6 +13,7 @@ use Rattle.leap.specs.Leap.{accepted}
 use Rattle.leap.specs.Entries.{Entry, entries, tableOf, Good}
 use Rattle.leap.specs.Readers.{tableResults}
 use Rattle.leap.proofs.Facts.{same-entry, accepted-to}
+use Rattle.leap.proofs.Readers.{judged-found, judged-refused, two-numbers}
 use Rattle.leap.proofs.Entries.{entries-of, table-is, accepted-good}
 use Rattle.columns.specs.Lines.{linesOf}
 use Rattle.cards.specs.Card.{cardYear, lastCardMonth, Card}
@@ -31,25 +32,21 @@ module _ (s : List ℕ) where
   -- the table of the entries that are told, accepted or not
   module _ {es : List Entry} (h : Tell (linesOf s) es) where
     found-told : accepted (tableOf es) ≡ true → GivesTable s (tableOf es)
-    found-told a = ap tableResults (tell-read s h) ∙ rw a
+    found-told = judged-found (tableOf es) (tell-read s h)
 
     refused-told : accepted (tableOf es) ≡ false → Refuses s 11 0
-    refused-told a = ap tableResults (tell-read s h) ∙ rw a
+    refused-told = judged-refused (tableOf es) (tell-read s h)
 
   refused-bad : {p : ℕ} → FirstBad s p → Refuses s 15 p
   refused-bad {p} f = ap tableResults (bad-read s p f)
-
-  -- no file has two answers of different numbers
-  numbers : {A : Type 0} {a b : ℕ × ℕ × Table} → tableResults (readCards s) ≡ a → tableResults (readCards s) ≡ b → (a .0 ≡ b .0 → ⊥) → A
-  numbers p q n = absurd (n (ap (λ x. x .0) (sym p ∙ q)))
 
   gives : (t : Table) → GivesTable s t → Tell (linesOf s) (entries t) × Good t
   gives t g = go (answered s)
     where
       go : Answered s → Tell (linesOf s) (entries t) × Good t
       go (as-table es h a) = subst (λ u. Tell (linesOf s) (entries u) × Good u) (ap (λ x. x .2) (sym (found-told h a) ∙ g)) (subst (Tell (linesOf s)) (sym (entries-of es)) h, accepted-good es a)
-      go (as-untabled es h a) = numbers (refused-told h a) g (λ z. omega arith)
-      go (as-bad p f) = numbers (refused-bad f) g (λ z. omega arith)
+      go (as-untabled es h a) = two-numbers (readCards s) (refused-told h a) g (λ z. omega arith)
+      go (as-bad p f) = two-numbers (readCards s) (refused-bad f) g (λ z. omega arith)
 
   given : (t : Table) → Tell (linesOf s) (entries t) → Good t → GivesTable s t
   given t h g = let e = table-is g in found-told h (ap accepted e ∙ g .is-accepted) ∙ ap (λ u. (0, 0, u)) e
@@ -58,16 +55,16 @@ module _ (s : List ℕ) where
   refuses-table g = go (answered s)
     where
       go : Answered s → (es : List Entry) × (Tell (linesOf s) es × (accepted (tableOf es) ≡ false))
-      go (as-table es h a) = numbers (found-told h a) g (λ z. omega arith)
+      go (as-table es h a) = two-numbers (readCards s) (found-told h a) g (λ z. omega arith)
       go (as-untabled es h a) = (es, (h, a))
-      go (as-bad p f) = numbers (refused-bad f) g (λ z. omega arith)
+      go (as-bad p f) = two-numbers (readCards s) (refused-bad f) g (λ z. omega arith)
 
   refuses-line : (p : ℕ) → Refuses s 15 p → FirstBad s p
   refuses-line p g = go (answered s)
     where
       go : Answered s → FirstBad s p
-      go (as-table es h a) = numbers (found-told h a) g (λ z. omega arith)
-      go (as-untabled es h a) = numbers (refused-told h a) g (λ z. omega arith)
+      go (as-table es h a) = two-numbers (readCards s) (found-told h a) g (λ z. omega arith)
+      go (as-untabled es h a) = two-numbers (readCards s) (refused-told h a) g (λ z. omega arith)
       go (as-bad q f) = subst (FirstBad s) (ap (λ x. x .1) (sym (refused-bad f) ∙ g)) f
 
   some : ((t : Table) × GivesTable s t) ⊎ (Refuses s 11 0 ⊎ ((p : ℕ) × Refuses s 15 p))

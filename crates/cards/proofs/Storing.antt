@@ -1,7 +1,7 @@
 -- A card is stored field by field on a blank one, and the cards one behind another: what is stored, with what is still to come, is all of them.
 -- Assumes nothing.
 use Prim.Native.Nat.{ℕ, suc, _+_, _-_, _*_, _/_, _≤_, _<_, min}
-use mathlib.Core.Path.{_≡_, refl, sym, ap, subst, _∙_}
+use mathlib.Core.Path.{_≡_, refl, sym, ap, _∙_}
 use mathlib.Core.Bool.{true}
 use mathlib.Core.List.{List, [], _∷_, _++_, append-assoc, append-nil}
 use native.Mathlib.Omega.{arith}
@@ -9,7 +9,6 @@ use lib.IntN.{ℤ, pos, negsuc}
 use lib.ListN.{length, take, drop, replicate}
 use lib.Seq.{take-at}
 use lib.Signed.{mag}
-use Rattle.laws.proofs.Cases.{by-order}
 use Rattle.laws.proofs.Difference.{up, down}
 use Rattle.laws.proofs.Placed.{place-none}
 use Rattle.leap.specs.declared.Table.{Table}
@@ -19,24 +18,21 @@ use Rattle.leap.proofs.Facts.{Accepted}
 use Rattle.leap.proofs.Offsets.{small}
 use Rattle.leap.proofs.Entries.{entries-same}
 use Rattle.digits.specs.Bytes.{ascii, appended, Appended, Placed}
-use Rattle.digits.specs.Decimals.{digitsOf, decimalText, signedText}
+use Rattle.digits.specs.Decimals.{digitsOf, signedText}
 use Rattle.digits.proofs.Bytes.{is-placed, placed, then-placed}
-use Rattle.digits.proofs.Short.{one-digit, decimal-form}
+use Rattle.digits.proofs.Short.{decimal-form}
 use Rattle.cards.specs.Card.{cardDate}
 use Rattle.cards.specs.Writing.{blanks, cardLine, cardText, cardsText, cardsOf, inCardYears}
 
 -- ---- a number below 99 in size: one digit or two, and a sign
-
-two-forms : (n : ℕ) (P : List ℕ → Type 0) → n < 100 → (n < 10 → P (digitsOf 1 n)) → (10 ≤ n → P (digitsOf 2 n)) → P (decimalText n)
-two-forms n P h f g = by-order n 10 (λ l. subst P (sym (one-digit n l)) (f l)) (λ l. decimal-form n P h f (λ k. g l))
 
 pub signed-form : (z : ℤ) → mag z < 99 → (P : ℤ → List ℕ → Type 0)
     → ((n : ℕ) → n < 10 → P (pos n) (digitsOf 1 n)) → ((n : ℕ) → 10 ≤ n → n < 100 → P (pos n) (digitsOf 2 n))
     → ((n : ℕ) → n < 9 → P (negsuc n) (45 ∷ digitsOf 1 (suc n))) → ((n : ℕ) → 9 ≤ n → n < 99 → P (negsuc n) (45 ∷ digitsOf 2 (suc n)))
     → P z (signedText z)
 unfolding signedText
-signed-form (pos n) h P one two minus-one minus-two = two-forms n (P (pos n)) (omega arith) (one n) (λ l. two n l (omega arith))
-signed-form (negsuc n) h P one two minus-one minus-two = two-forms (suc n) (λ x. P (negsuc n) (45 ∷ x)) (omega arith) (λ l. minus-one n (omega arith)) (λ l. minus-two n (omega arith) (omega arith))
+signed-form (pos n) h P one two minus-one minus-two = decimal-form n (P (pos n)) (omega arith) (one n) (λ l. two n l (omega arith))
+signed-form (negsuc n) h P one two minus-one minus-two = decimal-form (suc n) (λ x. P (negsuc n) (45 ∷ x)) (omega arith) (λ l. minus-one n (omega arith)) (λ l. minus-two n (omega arith) (omega arith))
 
 pub width-is : (z : ℤ) → mag z < 99 → length (signedText z) ≡ 1 + min 1 (down z) + min 1 ((up z + down z) / 10)
 width-is z h =

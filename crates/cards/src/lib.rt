@@ -2,9 +2,8 @@
 // What a card is, is in specs/Card.antt; what a file of them is, in specs/Promise.antt.
 ghost use mathlib.Core.Path.{_≡_};
 ghost use mathlib.Core.Bool.{true};
-ghost use mathlib.Core.List.{List};
-ghost use Prim.Native.Nat.{_+_, _≤_, _<_, min};
-ghost use lib.IntN.{ℤ};
+ghost use Prim.Native.Nat.{_+_, _-_, _≤_, _<_, min};
+ghost use lib.Dec.{leb};
 ghost use lib.ListN.{length, getD, take};
 ghost use lib.Signed.{mag};
 ghost use Rattle.digits.specs.Decimals.{digitValue, Within, signedText};
@@ -353,7 +352,7 @@ fn cards_of<'a>(count: usize, months: &'a [u32; 64], offsets: &'a [i32; 64]) -> 
 // No entry is later than a card can say: the last entry of an accepted table is its latest.
 fn in_card_years(count: usize, months: &[u32; 64]) -> bool
     requires { ⌜ (1 ≤ count) × (count ≤ 64) ⌝ }
-    ensures { λ r. ⌜ ((os : List ℤ) → accepted (tabled count (now (months .entry)) os) ≡ true → r ≡ inCardYears (entries (tabled count (now (months .entry)) os))) ⌝ }
+    ensures { λ r. ⌜ r ≡ leb (getD (now (months .entry)) (count - 1) 0) lastCardMonth ⌝ }
 {
     months[count - 1] <= LAST_MONTH
 }

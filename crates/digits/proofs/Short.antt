@@ -22,8 +22,8 @@ module _ (n : ℕ) where
   two-digits l h = ap (λ w. digitsOf w n) (width-more 19 n l ∙ ap suc (width-one 19 (n / 10) (omega arith) (omega arith)))
 
   -- a number below 100 has one digit or two
-  pub decimal-form : (P : List ℕ → Type 0) → n < 100 → (n < 10 → P (digitsOf 1 n)) → (n < 100 → P (digitsOf 2 n)) → P (decimalText n)
-  decimal-form P h f g = by-order n 10 (λ l. subst P (sym (one-digit l)) (f l)) (λ l. subst P (sym (two-digits l h)) (g h))
+  pub decimal-form : (P : List ℕ → Type 0) → n < 100 → (n < 10 → P (digitsOf 1 n)) → (10 ≤ n → P (digitsOf 2 n)) → P (decimalText n)
+  decimal-form P h f g = by-order n 10 (λ l. subst P (sym (one-digit l)) (f l)) (λ l. subst P (sym (two-digits l h)) (g l))
 
 pub decimal-short : (n : ℕ) → n < 100 → length (decimalText n) ≤ 2
 decimal-short n h = decimal-form n (λ x. length x ≤ 2) h (λ l. lit≤ tt) (λ l. lit≤ tt)

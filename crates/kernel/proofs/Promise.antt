@@ -18,6 +18,7 @@ use Rattle.leap.specs.Leap.{accepted}
 use Rattle.leap.specs.Entries.{Entry, entries, tableOf, Good}
 use Rattle.leap.specs.Readers.{refusedAt, judged, tableResults}
 use Rattle.leap.proofs.Facts.{accepted-to}
+use Rattle.leap.proofs.Readers.{judged-found, judged-refused, two-numbers}
 use Rattle.leap.proofs.Entries.{table-is, accepted-good}
 use Rattle.automaton.specs.declared.Mode.{Mode}
 use Rattle.automaton.specs.declared.Mode.the-variants.{Rest, Inside, Name, Ours, Pair, Date, Done, Dead}
@@ -179,34 +180,23 @@ answered s = go (cases s)
     go (too-long l g) = as-refused limit (long-read s l g)
     go (unfinished l g n) = as-refused (length s) (end-read s l g n)
 
--- a kernel's table, accepted or not
-module _ (s : List ℕ) (es : List Entry) (e : readKernel s ≡ judged (tableOf es)) where
-  judged-found : accepted (tableOf es) ≡ true → GivesTable s (tableOf es)
-  judged-found a = ap tableResults e ∙ rw a
-
-  judged-refused : accepted (tableOf es) ≡ false → Refuses s 11 0
-  judged-refused a = ap tableResults e ∙ rw a
-
-numbers : {A : Type 0} (s : List ℕ) {a b : ℕ × ℕ × Table} → tableResults (readKernel s) ≡ a → tableResults (readKernel s) ≡ b → (a .0 ≡ b .0 → ⊥) → A
-numbers s p q n = absurd (n (ap (λ x. x .0) (sym p ∙ q)))
-
 gives : (s : List ℕ) (t : Table) → GivesTable s t → (length s ≤ limit) × ((es : List Entry) × (Kernel es s × (Good (tableOf es) × (tableOf es ≡ t))))
 gives s t h = go (answered s)
   where
     go : Answered s → (length s ≤ limit) × ((es : List Entry) × (Kernel es s × (Good (tableOf es) × (tableOf es ≡ t))))
     go (as-kernel es l k e) = by-test (accepted (tableOf es))
-        (λ a. (l, (es, (k, (accepted-good es a, ap (λ x. x .2) (sym (judged-found s es e a) ∙ h))))))
-        (λ a. numbers s (judged-refused s es e a) h (λ z. omega arith))
-    go (as-refused p e) = numbers s (ap tableResults e) h (λ z. omega arith)
+        (λ a. (l, (es, (k, (accepted-good es a, ap (λ x. x .2) (sym (judged-found (tableOf es) e a) ∙ h))))))
+        (λ a. two-numbers (readKernel s) (judged-refused (tableOf es) e a) h (λ z. omega arith))
+    go (as-refused p e) = two-numbers (readKernel s) (ap tableResults e) h (λ z. omega arith)
 
 refuses-table : (s : List ℕ) → Refuses s 11 0 → (length s ≤ limit) × ((es : List Entry) × (Kernel es s × (accepted (tableOf es) ≡ false)))
 refuses-table s h = go (answered s)
   where
     go : Answered s → (length s ≤ limit) × ((es : List Entry) × (Kernel es s × (accepted (tableOf es) ≡ false)))
     go (as-kernel es l k e) = by-test (accepted (tableOf es))
-        (λ a. numbers s (judged-found s es e a) h (λ z. omega arith))
+        (λ a. two-numbers (readKernel s) (judged-found (tableOf es) e a) h (λ z. omega arith))
         (λ a. (l, (es, (k, a))))
-    go (as-refused p e) = numbers s (ap tableResults e) h (λ z. omega arith)
+    go (as-refused p e) = two-numbers (readKernel s) (ap tableResults e) h (λ z. omega arith)
 
 fault-place : {s x : List ℕ} {b p : ℕ} → Fault s x b → Refuses s 14 p → Place x b p
 fault-place {s} {x} {b} {p} f h =
@@ -216,8 +206,8 @@ fault-place {s} {x} {b} {p} f h =
 
 pub reads : (s : List ℕ) → ReadsKernel s
 reads s = record {
-  gives-a-table = λ t. (gives s t, λ h. let k = h .1 in judged-found s (k .0) (kernel-read s (k .0) (k .1 .0) (h .0)) (k .1 .1 .0 .is-accepted) ∙ ap (λ u. (0, 0, u)) (k .1 .1 .1));
-  refuses-its-table = (refuses-table s, λ h. let k = h .1 in judged-refused s (k .0) (kernel-read s (k .0) (k .1 .0) (h .0)) (k .1 .1));
+  gives-a-table = λ t. (gives s t, λ h. let k = h .1 in judged-found (tableOf (k .0)) (kernel-read s (k .0) (k .1 .0) (h .0)) (k .1 .1 .0 .is-accepted) ∙ ap (λ u. (0, 0, u)) (k .1 .1 .1));
+  refuses-its-table = (refuses-table s, λ h. let k = h .1 in judged-refused (tableOf (k .0)) (kernel-read s (k .0) (k .1 .0) (h .0)) (k .1 .1));
   refuses-a-fault = λ x b p f. (fault-place f, λ q. ap tableResults (fault-read f p (placed x b p (f .certain) .1 q)));
   has-a-place = λ x b f. let d = dies (x ++ b ∷ []) (f .certain .no-more) in (d .place, placed x b (d .place) (f .certain) .0 (d .there));
   refuses-its-length = λ l g. ap tableResults (long-read s l g);
@@ -232,7 +222,7 @@ reads-back t g =
     let a = accepted-to t (g .is-accepted) in
     let e = table-is g in
     let r = kernel-read (kernelOf t) (entries t) (Written.kernel-is a) (omega (arith, sizes a)) in
-    judged-found (kernelOf t) (entries t) r (ap accepted e ∙ g .is-accepted) ∙ ap (λ u. (0, 0, u)) e
+    judged-found (tableOf (entries t)) r (ap accepted e ∙ g .is-accepted) ∙ ap (λ u. (0, 0, u)) e
 
 pub writes : (t : Table) (buffer : List ℕ) → WritesKernel t buffer
 writes t buffer =

@@ -9,10 +9,11 @@ use Rattle.laws.proofs.Branches.{fails, holds, cond-yes, cond-rest}
 use Rattle.leap.specs.declared.Table.{Table}
 use Rattle.leap.specs.Leap.{withoutMonth, accepted}
 use Rattle.leap.specs.Entries.{entries}
-use Rattle.leap.proofs.Facts.{count-to}
+use Rattle.leap.proofs.Facts.{count-to, accepted-to}
 use Rattle.leap.proofs.Vouched.{without-month}
 use Rattle.leap.proofs.Entries.{entries-same}
 use Rattle.cards.specs.Writing.{inCardYears}
+use Rattle.cards.proofs.Years.{last-tells}
 use Rattle.cards.proofs.Storing.{cards-same}
 use Rattle.cards.proofs.write_cards.Statement.{statement}
 use Rattle.cards.proofs.write_cards.Tie as tie
@@ -33,8 +34,11 @@ module _ (c : tie.After-in-card-years) where
   abbrev judged : tie.Else1
   judged = c .before .before .before
 
+  bare-years : c .in-card-years .result ≡ inCardYears (entries (withoutMonth (t judged)))
+  bare-years = c .in-card-years .ensures ∙ last-tells (accepted-to (withoutMonth (t judged)) (bare judged))
+
   years : c .in-card-years .result ≡ inCardYears (entries (t judged))
-  years = c .in-card-years .ensures (t judged .offsets) (bare judged) ∙ ap inCardYears (entries-same 0 (t judged))
+  years = bare-years ∙ ap inCardYears (entries-same 0 (t judged))
 
 pub write-cards-spec : {M : Type 1} → statement M
 write-cards-spec =
@@ -55,7 +59,7 @@ write-cards-spec =
     (λ c κs.
     let e = c .before .before .before in
     let y = e .before in
-    (bare (judged y), holds (y .in-card-years .ensures (t (judged y) .offsets) (bare (judged y))) (e .if2 .left)))
+    (bare (judged y), holds (bare-years y) (e .if2 .left)))
     -- array-share-prefix-bytes
     (λ c. search needs)
     -- slice-aggregate-write
