@@ -1,5 +1,5 @@
-/* Each call of the header, once with an answer and once refused (mundreff_bulletin_c is never refused); texts with a final zero, Julian dates of
-   UTC days of each length, a tick in place, buffers of no bytes, the month that a table is vouched for with the marks of each call, the lengths
+/* Each call of the header, once with an answer and once refused (mundreff_bulletin_c is never refused); texts with a final zero, and in order;
+   Julian dates of UTC days of each length, a tick in place, buffers of no bytes, the month that a table is vouched for with the marks of each call, the lengths
    that are always enough and the names of the refusals. It is C and C++. It says where an answer is another than the header's, and ends with
    status 1. */
 #include <stdio.h>
@@ -235,6 +235,24 @@ static void texts(void)
     USED(before);
     expect("write_text refused", mundreff_write_text(&table, added, MUNDREFF_DAY_OF_YEAR, MUNDREFF_UTC, 0, out, 16, &length, marked()) == MUNDREFF_ROOM && length == 0 && SAME(out, before) && marks == 0);
     expect("write_text", mundreff_write_text(&table, added, MUNDREFF_DAY_OF_YEAR, MUNDREFF_UTC, 0, out, sizeof out, &length, marked()) == MUNDREFF_OK && length == 17 && memcmp(out, text, 17) == 0 && memcmp(out + 17, before, 3) == 0 && marks == 0);
+}
+
+/* how memcmp orders the six-digit texts of two instants: below 0 where the earlier one's is the less */
+static int compared(uint32_t picture, int64_t earlier, int64_t later)
+{
+    char a[MUNDREFF_TEXT_ROOM], b[MUNDREFF_TEXT_ROOM];
+    size_t length = 9, other = 9;
+    expect("texts to compare", mundreff_write_text(&table, earlier, picture, MUNDREFF_UTC, 6, a, sizeof a, &length, marked()) == MUNDREFF_OK && mundreff_write_text(&table, later, picture, MUNDREFF_UTC, 6, b, sizeof b, &other, marked()) == MUNDREFF_OK && length == other);
+    return memcmp(a, b, length);
+}
+
+/* into an added second, through it and out of it, by number of the month and by day of the year; and a pair that names of months break */
+static void sorted_texts(void)
+{
+    const int64_t in_time[] = {added - 1, added, added + 999999, added + 1000000};
+    for (int k = 0; k < 3; k++)
+        expect("texts sort", compared(MUNDREFF_MONTH_NUMBER, in_time[k], in_time[k + 1]) < 0 && compared(MUNDREFF_DAY_OF_YEAR, in_time[k], in_time[k + 1]) < 0);
+    expect("names do not", compared(MUNDREFF_MONTH_NAME, -435698908000000, -433020508000000) > 0);
 }
 
 /* a text with its final zero, read and written; without a byte for the zero it is refused, and the buffer keeps its bytes */
@@ -531,6 +549,7 @@ int main(void)
     below_zero();
     stamps();
     texts();
+    sorted_texts();
     strings();
     pairs();
     utc_pairs();

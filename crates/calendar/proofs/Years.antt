@@ -174,3 +174,9 @@ day-back y n a e = go (leb 1 n && leb n (yearLength y)) refl e
           omega (arith, ap daysBefore here, ap daysBefore year, days-mono (12 * y) k (w .0)),
         )
     go false p q = let z : _≡_ {A = ℕ} 0 1 = cc in absurd (omega arith)
+
+-- within a year a later month has the later days of the year
+pub day-rises : (m n d e : ℕ) → m / 12 ≡ n / 12 → m < n → d ≤ monthLength m → 1 ≤ e → dayOfYear m d < dayOfYear n e
+day-rises m n d e y h l f =
+    let year : 12 * (m / 12) ≡ 12 * (n / 12) = omega arith in
+    omega (arith, ap daysBefore year, days-next m, days-mono (12 * (m / 12)) m (omega arith), days-mono (m + 1) n (omega arith))

@@ -7,6 +7,7 @@ pub mod Guess
 pub mod Admitted
 pub mod Years
 pub mod Labelled
+pub mod Compared
 pub mod Judging
 pub mod Lengths
 pub mod Promise

@@ -1,16 +1,18 @@
 -- The order of labels is the order of their seconds.
 -- Assumes nothing.
-use mathlib.Core.Path.{_≡_, refl, sym, ap}
+use mathlib.Core.Path.{_≡_, ap}
 use mathlib.Core.Logic.{_⊎_, inl, inr}
-use mathlib.Core.List.{List, [], _∷_}
+use mathlib.Core.List.{List}
 use Prim.Native.Nat.{ℕ, _+_, _*_, _<_}
 use native.Mathlib.Omega.{arith}
-use lib.ListN.{length, getD}
-use Rattle.laws.proofs.Cases.{lt-cases, by-order}
+use lib.ListN.{getD}
+use Rattle.laws.specs.Order.{Less}
+use Rattle.laws.proofs.Cases.{by-order}
 use Rattle.laws.proofs.Difference.{up, down}
+use Rattle.laws.proofs.Order.{one-is-less}
 use Rattle.months.specs.Months.{daysBefore, monthLength}
 use Rattle.labels.specs.declared.Label.{Label}
-use Rattle.labels.specs.Labels.{Offsets, label, monthOf, Less, fields, Before}
+use Rattle.labels.specs.Labels.{Offsets, label, monthOf, fields, Before}
 use Rattle.labels.specs.Seconds.{secondOf}
 use Rattle.laws.proofs.Offsets.{Steps}
 use Rattle.labels.proofs.Falls.{before-later}
@@ -45,32 +47,24 @@ module _ (o : Offsets) (st : Steps o) (l l′ : Label) (e : Exists o l) (e′ : 
   order (inr (y, inr (mo, inr (d, inr (hr, inr (mi, inl c)))))) = in-month (omega arith) (omega arith)
   order (inr (y, inr (mo, inr (d, inr (hr, inr (mi, inr (c, n))))))) = absurd n
 
--- of two lists of one length one is less, or they are equal
-tri : (xs ys : List ℕ) → length xs ≡ length ys → Less xs ys ⊎ ((xs ≡ ys) ⊎ Less ys xs)
-unfolding Less
-tri [] [] e = inr (inl refl)
-tri [] (y ∷ ys) e = absurd (omega arith)
-tri (x ∷ xs) [] e = absurd (omega arith)
-tri (x ∷ xs) (y ∷ ys) e = go (lt-cases x y) (tri xs ys (omega arith))
-  where
-    go : (x < y) ⊎ ((x ≡ y) ⊎ (y < x)) → Less xs ys ⊎ ((xs ≡ ys) ⊎ Less ys xs) → Less (x ∷ xs) (y ∷ ys) ⊎ (((x ∷ xs) ≡ (y ∷ ys)) ⊎ Less (y ∷ ys) (x ∷ xs))
-    go (inl h) r = inl (inl h)
-    go (inr (inr h)) r = inr (inr (inl h))
-    go (inr (inl q)) (inl r) = inl (inr (q, r))
-    go (inr (inl q)) (inr (inl r)) = inr (inl (cc))
-    go (inr (inl q)) (inr (inr r)) = inr (inr (inr (sym q, r)))
+-- ---- and back
 
 ofFields : List ℕ → Label
 ofFields f = label (getD f 0 0) (getD f 1 0) (getD f 2 0) (getD f 3 0) (getD f 4 0) (getD f 5 0)
 
-pub order-back : (o : Offsets) → Steps o → (l l′ : Label) → Exists o l → Exists o l′ → (s s′ : ℕ) → Stands o l s → Stands o l′ s′ → s < s′ → Before l l′
+-- a label is all that it shows
+pub from-fields : (l l′ : Label) → fields l ≡ fields l′ → l ≡ l′
 unfolding ofFields
-order-back o st l l′ e e′ s s′ h h′ p = go (tri (fields l) (fields l′) refl)
+from-fields l l′ e = ap ofFields e
+
+-- and stands for one second
+pub same-second : (o : Offsets) (l l′ : Label) (s s′ : ℕ) → Stands o l s → Stands o l′ s′ → l ≡ l′ → s ≡ s′
+same-second o l l′ s s′ h h′ e = let m = ap monthOf e in omega (arith, ap secondOf e, ap up (ap o m), ap down (ap o m))
+
+pub order-back : (o : Offsets) → Steps o → (l l′ : Label) → Exists o l → Exists o l′ → (s s′ : ℕ) → Stands o l s → Stands o l′ s′ → s < s′ → Before l l′
+order-back o st l l′ e e′ s s′ h h′ p = go (one-is-less (fields l) (fields l′))
   where
     go : Before l l′ ⊎ ((fields l ≡ fields l′) ⊎ Before l′ l) → Before l l′
     go (inl b) = b
-    go (inr (inl q)) =
-        let same : l ≡ l′ = ap ofFields q in
-        let m = ap monthOf same in
-        absurd (omega (arith, ap secondOf same, ap up (ap o m), ap down (ap o m)))
+    go (inr (inl q)) = absurd (omega (arith, same-second o l l′ s s′ h h′ (from-fields l l′ q)))
     go (inr (inr b)) = absurd (omega (arith, order o st l′ l e′ e s′ s h′ h b))

@@ -1,13 +1,12 @@
 -- Labels: which exist, and their order.
 -- Assumes nothing.
-use mathlib.Core.Path.{_≡_}
-use mathlib.Core.Logic.{_⊎_}
 use mathlib.Core.Bool.{Bool, cond, _&&_}
 use mathlib.Core.List.{List, [], _∷_, _++_}
-use Prim.Native.Nat.{ℕ, _+_, _*_, _-_, _<_}
+use Prim.Native.Nat.{ℕ, _+_, _*_, _-_}
 use lib.Dec.{eqb, leb, ltb}
 use lib.IntN.{ℤ, pos}
 use lib.Signed.{ltZ}
+use Rattle.laws.specs.Order.{Less}
 use Rattle.answer.specs.declared.Refusal.{Refusal}
 use Rattle.answer.specs.declared.Refusal.the-variants.{Year as YEAR, Date as DATE, Clock as CLOCK, NoSecond as NOSECOND}
 use Rattle.answer.specs.Refusals.{allPass, refusing}
@@ -101,14 +100,7 @@ admitted o most r = allPass (labelTests o most r)
 
 -- ---- their order
 
--- the first number that differs decides
-unfoldable pub Less : List ℕ → List ℕ → Type 0
-Less [] [] = ⊥
-Less [] (y ∷ ys) = ⊥
-Less (x ∷ xs) [] = ⊥
-Less (x ∷ xs) (y ∷ ys) = (x < y) ⊎ ((x ≡ y) × Less xs ys)
-
--- the order of the calendar
+-- that of the calendar: the first number that differs decides
 abbrev pub fields : Label → List ℕ
 fields l = l .year ∷ l .month ∷ l .day ∷ l .hour ∷ l .minute ∷ l .second ∷ []
 

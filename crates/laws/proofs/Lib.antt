@@ -1,6 +1,7 @@
 pub mod Cases
 pub mod Branches
 pub mod Difference
+pub mod Order
 pub mod Machine
 pub mod Tables
 pub mod Placed

@@ -25,21 +25,17 @@ use Rattle.pictures.specs.declared.FieldsAnswer.the-variants.{Picture, N
 use Rattle.pictures.specs.Parts.{Numbers}
 use Rattle.pictures.specs.Pictures.{dateText, clockText, fractionText, pictureText, DateFits, WellFormed}
 use Rattle.pictures.specs.Reading.{asShown, like, inFull, rightLength, hasPicture, numberedPattern, ofYearPattern, namedPattern, monthIn, fieldsIn, numberedIn, ofYearIn, namedIn, orElse, readNumbered, readOfYear, readNamed, readFields}
-use Rattle.pictures.specs.Promise.{Determined}
+use Rattle.pictures.specs.Promise.{showing, Determined}
 use Rattle.pictures.proofs.Spelling.{digit-yes, all-bytes, number-whole, again}
 use Rattle.pictures.proofs.Fraction.{cut, fraction-filled, fraction-length, fraction-right}
 use Rattle.pictures.proofs.Patterns.{and-false, digits-at, numbers-at, like-length, like-at, unlike, countless, counts-none, lengths}
 
--- the same fields with another number of digits
-abbrev with : Fields → ℕ → Fields
-with f k = record { year = f .year; date = f .date; hour = f .hour; minute = f .minute; second = f .second; digits = k; micro = f .micro }
-
-abbrev before-point : Fields → ℕ
+abbrev pub before-point : Fields → ℕ
 before-point f = length (dateText (f .year) (f .date)) + 8
 
 -- ---- a text cut to its length, and filled again
 
-cut-text : (f : Fields) (n size : ℕ) → before-point f ≡ n → rightLength n size ≡ true → take size (pictureText (with f 6)) ≡ pictureText (with f (size - (n + 1)))
+pub cut-text : (f : Fields) (n size : ℕ) → before-point f ≡ n → rightLength n size ≡ true → take size (pictureText (showing 6 f)) ≡ pictureText (showing (size - (n + 1)) f)
 unfolding pictureText
 cut-text f n size e r =
     let d = dateText (f .year) (f .date) in
@@ -56,7 +52,7 @@ text-length : (f : Fields) → length (pictureText f) ≡ before-point f + lengt
 unfolding pictureText
 text-length f = simp length-append (omega arith)
 
-filled-text : (f : Fields) (cs : List ℕ) → WellFormed f → drop (before-point f) cs ≡ fractionText 6 0 → inFull cs (pictureText f) ≡ pictureText (with f 6)
+filled-text : (f : Fields) (cs : List ℕ) → WellFormed f → drop (before-point f) cs ≡ fractionText 6 0 → inFull cs (pictureText f) ≡ pictureText (showing 6 f)
 unfolding pictureText
 filled-text f cs w e =
     let d = dateText (f .year) (f .date) in
@@ -157,7 +153,7 @@ module _ (cs s : List ℕ) (n : ℕ) (h : hasPicture cs n s ≡ true) where
       subst (λ (w : ℕ). numberAt (inFull cs s) (n + 1) w % 10 ^ (6 - k) ≡ 0) six
       (number-whole (inFull cs s) (n + 1) k (6 - k) (λ x l. ap digitValue (over-old s cs x 0 (omega arith)) ∙ counts-none cs e x))
 
-  its-text : (f : Fields) → before-point f ≡ n → inFull cs s ≡ pictureText (with f 6) → s ≡ pictureText (with f (length s - (n + 1)))
+  its-text : (f : Fields) → before-point f ≡ n → inFull cs s ≡ pictureText (showing 6 f) → s ≡ pictureText (showing (length s - (n + 1)) f)
   its-text f e q = sym (take-at s (drop (length s) cs) (length s) refl) ∙ ap (take (length s)) q ∙ cut-text f n (length s) e right
 
 numbered-shown : (s : List ℕ) → hasPicture numberedPattern 19 s ≡ true
@@ -197,49 +193,49 @@ module _ (y h m s k u : ℕ) where
   whole d w a b c e f n o =
       fields-path (a ∙ number-back 4 (w .year)) b (c ∙ number-back 2 (w .hour)) (e ∙ number-back 2 (w .minute)) (f ∙ number-back 2 (w .second)) n (o ∙ number-back 6 (w .micro))
 
-  numbered-back : (a b : ℕ) → WellFormed (of (Numbered a b)) → numberedIn (pictureText (with (of (Numbered a b)) 6)) k ≡ of (Numbered a b)
+  numbered-back : (a b : ℕ) → WellFormed (of (Numbered a b)) → numberedIn (pictureText (showing 6 (of (Numbered a b)))) k ≡ of (Numbered a b)
   unfolding pictureText
   numbered-back a b w =
       let p = number-back 2 (w .date .0) in
       let q = number-back 2 (w .date .1) in
       whole (Numbered a b) w refl (λ i. Numbered (p i) (q i)) refl refl refl refl refl
 
-  of-year-back : (b : ℕ) → WellFormed (of (OfYear b)) → ofYearIn (pictureText (with (of (OfYear b)) 6)) k ≡ of (OfYear b)
+  of-year-back : (b : ℕ) → WellFormed (of (OfYear b)) → ofYearIn (pictureText (showing 6 (of (OfYear b)))) k ≡ of (OfYear b)
   unfolding pictureText
   of-year-back b w = let q = number-back 3 (w .date) in whole (OfYear b) w refl (λ i. OfYear (q i)) refl refl refl refl refl
 
-  month-there : (a b : ℕ) → WellFormed (of (Named a b)) → monthIn (pictureText (with (of (Named a b)) 6)) ≡ a
+  month-there : (a b : ℕ) → WellFormed (of (Named a b)) → monthIn (pictureText (showing 6 (of (Named a b)))) ≡ a
   unfolding pictureText
   month-there a b w = named-back a (w .date .0) (w .date .1)
 
-  named-again : (a b : ℕ) → WellFormed (of (Named a b)) → namedIn (pictureText (with (of (Named a b)) 6)) k ≡ of (Named a b)
+  named-again : (a b : ℕ) → WellFormed (of (Named a b)) → namedIn (pictureText (showing 6 (of (Named a b)))) k ≡ of (Named a b)
   unfolding pictureText
   named-again a b w =
       let p = month-there a b w in
       let q = number-back 2 (w .date .2) in
       whole (Named a b) w refl (λ i. Named (p i) (q i)) refl refl refl refl refl
 
-  numbered-like : (a b : ℕ) → like numberedPattern (pictureText (with (of (Numbered a b)) 6)) ≡ true
+  numbered-like : (a b : ℕ) → like numberedPattern (pictureText (showing 6 (of (Numbered a b)))) ≡ true
   unfolding pictureText like
   numbered-like a b = simp digit-yes
 
-  of-year-like : (b : ℕ) → like ofYearPattern (pictureText (with (of (OfYear b)) 6)) ≡ true
+  of-year-like : (b : ℕ) → like ofYearPattern (pictureText (showing 6 (of (OfYear b)))) ≡ true
   unfolding pictureText like
   of-year-like b = simp digit-yes
 
-  named-like : (a b : ℕ) → like namedPattern (pictureText (with (of (Named a b)) 6)) ≡ true
+  named-like : (a b : ℕ) → like namedPattern (pictureText (showing 6 (of (Named a b)))) ≡ true
   unfolding pictureText like
   named-like a b = simp digit-yes
 
 -- how the text of fields is judged by a pattern whose fraction is its own
 module _ (f : Fields) (w : WellFormed f) (cs : List ℕ) (n : ℕ) (e : before-point f ≡ n) (z : drop n cs ≡ fractionText 6 0) where
-  fills : inFull cs (pictureText f) ≡ pictureText (with f 6)
+  fills : inFull cs (pictureText f) ≡ pictureText (showing 6 f)
   fills = filled-text f cs w (ap (λ (j : ℕ). drop j cs) e ∙ z)
 
   size : length (pictureText f) ≡ n + length (fractionText (f .digits) (f .micro))
   size = text-length f ∙ ap (λ (j : ℕ). j + length (fractionText (f .digits) (f .micro))) e
 
-  has : like cs (pictureText (with f 6)) ≡ true → hasPicture cs n (pictureText f) ≡ true
+  has : like cs (pictureText (showing 6 f)) ≡ true → hasPicture cs n (pictureText f) ≡ true
   has h = join (ap (rightLength n) size ∙ fraction-right n (f .digits) (f .micro) (w .digits)) (ap (like cs) fills ∙ h)
 
   digits-there : length (pictureText f) - (n + 1) ≡ f .digits

@@ -8,6 +8,7 @@ pub mod Constants
 pub mod Writers
 pub mod Stamps
 pub mod Text
+pub mod Sorting
 pub mod Blocks
 pub mod Kernels
 pub mod CardRows

@@ -1,15 +1,16 @@
 -- A scale's two sides: offsets that move by at most one, and a map that each way undoes.
 -- Assumes nothing.
-use mathlib.Core.Path.{_≡_, refl, sym}
+use mathlib.Core.Path.{_≡_, refl, sym, ap, _∙_}
 use Prim.Native.Nat.{ℕ, _+_, _*_, _≤_}
 use native.Mathlib.Omega.{arith}
 use lib.IntN.{ℤ, pos, _+ℤ_, _-ℤ_}
 use borrow.Author.Tests.{eqb-true}
 use lib.Dec.{eqb}
 use Rattle.laws.proofs.Cases.{pick}
-use Rattle.laws.proofs.Difference.{up, down, sum-is, diff-is, eq-from}
+use Rattle.laws.proofs.Difference.{up, down, sum-is, diff-is, eq-from, le-to, le-from}
 use Rattle.laws.proofs.Machine.{Within}
 use Rattle.laws.proofs.Offsets.{Steps, uniform-steps}
+use Rattle.laws.proofs.Order.{NeverFalls, OneToOne}
 use Rattle.leap.specs.declared.Table.{Table}
 use Rattle.leap.proofs.Facts.{Accepted}
 use Rattle.leap.proofs.Moves.{at-first, steps-by-months}
@@ -87,3 +88,10 @@ axis-back s a = eq-from (toAxis s (toInstant s a)) a (omega (arith, to-axis-is s
 
 pub instant-back : (s : Scale) (x : ℤ) → toInstant s (toAxis s x) ≡ x
 instant-back s x = eq-from (toInstant s (toAxis s x)) x (omega (arith, to-instant-is s (toAxis s x), to-axis-is s x))
+
+-- and the way to the axis never falls
+pub axis-rises : (s : Scale) → NeverFalls (toAxis s)
+axis-rises s x y h = le-from (toAxis s x) (toAxis s y) (omega (arith, to-axis-is s x, to-axis-is s y, le-to h))
+
+pub axis-one-to-one : (s : Scale) → OneToOne (toAxis s)
+axis-one-to-one s x y e = sym (instant-back s x) ∙ ap (toInstant s) e ∙ instant-back s y

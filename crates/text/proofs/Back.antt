@@ -8,12 +8,9 @@ use native.Mathlib.Nat.{div-add-mod'}
 use native.Mathlib.Omega.{arith}
 use borrow.Author.Tests.{le-leb}
 use lib.IntN.{ℤ}
-use lib.ListN.{length, take}
 use lib.Signed.{_≤ℤ_}
 use Rattle.laws.proofs.Cases.{and-l, and-r, join}
 use Rattle.laws.proofs.Difference.{up, down, integers, le-from}
-use Rattle.laws.proofs.Placed.{over-front}
-use Rattle.answer.specs.Buffers.{writtenResults}
 use Rattle.leap.specs.declared.Table.{Table}
 use Rattle.leap.proofs.Facts.{accepted-to}
 use Rattle.stamp.specs.declared.Scale.{Scale}
@@ -28,12 +25,12 @@ use Rattle.labels.proofs.Facts.{clock-to}
 use Rattle.stamp.proofs.Scales.{instant-is}
 use Rattle.stamp.proofs.Ranges.{range-count}
 use Rattle.pictures.specs.Pictures.{dateText, clockText, pictureText}
-use Rattle.text.specs.Text.{dateAs, textOf, readText, textResults, writeText, writeTextAfter}
+use Rattle.text.specs.Text.{dateAs, textOf, readText, textResults}
 use Rattle.stamp.proofs.Promise.{in-range-reads, reads-stamp}
-use Rattle.text.specs.Promise.{Known, AcceptedAs, Names, WrittenExactly, Showable, Latest, ReadsBack}
+use Rattle.text.specs.Promise.{Known, AcceptedAs, Names, WritesText, Showable, Latest, ReadsBack}
 use Rattle.pictures.proofs.Fraction.{fraction-cut}
 use Rattle.text.proofs.Exactly.{read-exactly}
-use Rattle.text.proofs.Writing.{written-exactly}
+use Rattle.text.proofs.Writing.{written-is}
 
 -- ---- a reading cut to its first digits
 
@@ -79,30 +76,19 @@ mod-le u q = omega (arith, div-add-mod' u q)
 
 -- ---- an instant that is written
 
-module _ (t : Table) (k : ℕ) (x : ℤ) (p d : ℕ) (buffer : List ℕ) (n : ℕ) (e : writtenResults (writeText t x p k d buffer) ≡ (0, n)) where
-  call : WrittenExactly t k x p d buffer
-  call = written-exactly t k x p d buffer
-
-  known : Known t k p d
-  known = call .success .0 (ap (λ v. v .0) e) .0
-
+module _ (t : Table) (k : ℕ) (x : ℤ) (p d : ℕ) (text : List ℕ) (w : WritesText t x p k d text) where
   r : Reading
-  r = call .success .0 (ap (λ v. v .0) e) .1 .0
+  r = written-is t x p k d text w .reading
 
   sc : Scale
   sc = scaleOf k
 
+  known : Known t k p d
+  known = written-is t x p k d text w .known
+
   reads : Reads t sc r x
   unfolding r sc
-  reads = call .success .0 (ap (λ v. v .0) e) .1 .1
-
-  -- the front of the buffer is the text
-  front : take n (writeTextAfter t x p k d buffer) ≡ textOf p d r
-  unfolding sc
-  front =
-      let w = call .as-text r reads (ap (λ v. v .0) e) in
-      let size : length (textOf p d r) ≡ n = ap (λ v. v .1) (sym (w .0) ∙ e) in
-      ap (take n) (w .1) ∙ over-front (textOf p d r) buffer size
+  reads = written-is t x p k d text w .reads
 
   r′ : Reading
   r′ = cutTo d r
@@ -118,8 +104,9 @@ module _ (t : Table) (k : ℕ) (x : ℤ) (p d : ℕ) (buffer : List ℕ) (n : �
   unfolding r′ sc cutTo
   names = record { picture = p; digits = d; known = known; reads = cut-reads; enough = cut-shown d (r .micro) (known .a-number); text-is = text-cut p d r (known .a-number) }
 
-  answer : AcceptedAs t k (take n (writeTextAfter t x p k d buffer)) y (stamp (scaleOf k) r′)
-  answer = ap (λ (l : List ℕ). textResults (readText t k l)) front ∙ read-exactly t k (textOf p d r) .success y (stamp (scaleOf k) r′) .1 (refl, names)
+  answer : AcceptedAs t k text y (stamp (scaleOf k) r′)
+  unfolding r
+  answer = ap (λ (l : List ℕ). textResults (readText t k l)) (written-is t x p k d text w .text-is) ∙ read-exactly t k (textOf p d r) .success y (stamp (scaleOf k) r′) .1 (refl, names)
 
   -- what is cut lies between the two
   apart : up y + (down x + r .micro % 10 ^ (6 - d)) ≡ up x + down y
@@ -155,9 +142,9 @@ pub back : (t : Table) (k : ℕ) → ReadsBack t k
 unfolding r′ y sc
 back t k =
     record {
-      six = λ x p buffer n e.
-          let q = r t k x p 6 buffer n e in
-          let i = ap (instantFor t (scaleOf k)) (whole q) ∙ reads t k x p 6 buffer n e .instant-is in
-          (stamp (scaleOf k) (cutTo 6 q), answer t k x p 6 buffer n e ∙ ap (λ (w : ℤ). (0, w, stamp (scaleOf k) (cutTo 6 q))) i);
-      cut = λ x p d buffer n e. (y t k x p d buffer n e, stamp (scaleOf k) (r′ t k x p d buffer n e), answer t k x p d buffer n e, latest t k x p d buffer n e);
+      six = λ x p text w.
+          let q = r t k x p 6 text w in
+          let i = ap (instantFor t (scaleOf k)) (whole q) ∙ reads t k x p 6 text w .instant-is in
+          (stamp (scaleOf k) (cutTo 6 q), answer t k x p 6 text w ∙ ap (λ (w : ℤ). (0, w, stamp (scaleOf k) (cutTo 6 q))) i);
+      cut = λ x p d text w. (y t k x p d text w, stamp (scaleOf k) (r′ t k x p d text w), answer t k x p d text w, latest t k x p d text w);
     }

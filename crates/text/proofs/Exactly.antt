@@ -29,6 +29,7 @@ use Rattle.pictures.specs.declared.Fields.{Fields}
 use Rattle.pictures.specs.declared.FieldsAnswer.{FieldsAnswer}
 use Rattle.pictures.specs.declared.FieldsAnswer.the-variants.{Picture, NoPicture}
 use Rattle.pictures.specs.Pictures.{fractionText, pictureText, DateFits, WellFormed}
+use Rattle.pictures.specs.Promise.{pictureOf}
 use Rattle.pictures.specs.Reading.{readFields}
 use Rattle.pictures.proofs.Promise.{shown, back}
 use Rattle.labels.specs.declared.Reading.{Reading}
@@ -76,19 +77,13 @@ module _ (o : Offsets) (most : ℕ) (r : Reading) (a : Admitted o most r) (few :
   date-fits (suc (suc zero)) h = omega (arith, a .exists .month-low, a .exists .month-high, a .exists .day-high, length-most (monthOf (r .label)))
   date-fits (suc (suc (suc p))) h = absurd (omega arith)
 
-  well-formed : (p digits : ℕ) → p ≤ 2 → digits ≤ 6 → r .micro % 10 ^ (6 - digits) ≡ 0 → WellFormed (fieldsOf p digits r)
+  pub well-formed : (p digits : ℕ) → p ≤ 2 → digits ≤ 6 → r .micro % 10 ^ (6 - digits) ≡ 0 → WellFormed (fieldsOf p digits r)
   well-formed p digits h g e =
       let c = a .on-clock in
       record { year = omega (arith, a .until-9999); date = date-fits p h; hour = omega (arith, c .hour-high); minute = omega (arith, c .minute-high); second = omega (arith, c .second-most); digits = g; micro = omega (arith, c .micro-high); shown = e }
 
 -- and back: an admitted reading of fields has these fields, in the picture of their date
-picture-of : Date → ℕ
-picture-of (Numbered m d) = 0
-picture-of (OfYear d) = 1
-picture-of (Named m d) = 2
-
-a-picture : (d : Date) → picture-of d ≤ 2
-unfolding picture-of
+a-picture : (d : Date) → pictureOf d ≤ 2
 a-picture (Numbered m d) = omega arith
 a-picture (OfYear d) = omega arith
 a-picture (Named m d) = omega arith
@@ -100,8 +95,7 @@ day-again y d = go (dateInYear y d) refl
     go (On r) e h = day-back y d r e .1
     go Nothing e h = absurd (omega arith)
 
-fields-back : (y h mi s k u : ℕ) (d : Date) → 1 ≤ monthDayOf y d .month → let f : Fields = record { year = y; date = d; hour = h; minute = mi; second = s; digits = k; micro = u } in fieldsOf (picture-of d) k (readingOf f) ≡ f
-unfolding picture-of
+fields-back : (y h mi s k u : ℕ) (d : Date) → 1 ≤ monthDayOf y d .month → let f : Fields = record { year = y; date = d; hour = h; minute = mi; second = s; digits = k; micro = u } in fieldsOf (pictureOf d) k (readingOf f) ≡ f
 fields-back y h mi s k u (Numbered m d) e = refl
 fields-back y h mi s k u (OfYear d) e = rw (day-again y d e)
 fields-back y h mi s k u (Named m d) e = refl
@@ -157,7 +151,7 @@ module _ (t : Table) (k : ℕ) (text : List ℕ) where
       let a = admitted-to o most r (q .0) in
       let names : Names t k text x r =
       record {
-        picture = picture-of (f .date);
+        picture = pictureOf (f .date);
         digits = f .digits;
         known = record { a-scale = known; a-picture = a-picture (f .date); a-number = w .0 .digits; a-table = good };
         reads = record { is-admitted = q .0; instant-is = is-instant (q .1) };

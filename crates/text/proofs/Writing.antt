@@ -8,9 +8,10 @@ use native.Mathlib.Omega.{arith}
 use borrow.Author.Tests.{le-leb, lt-leb, leb-true, leb-false}
 use lib.Dec.{leb}
 use lib.IntN.{ℤ}
-use lib.ListN.{length}
+use lib.ListN.{length, take}
 use Rattle.laws.specs.Placed.{over}
 use Rattle.laws.proofs.Cases.{by-test, and-l, and-r, join}
+use Rattle.laws.proofs.Placed.{over-front}
 use Rattle.answer.specs.declared.Refusal.the-variants.{Room as ROOM, Range as RANGE, Ask as ASK, Table as TABLE}
 use Rattle.answer.specs.declared.Written.the-variants.{Wrote, Refused}
 use Rattle.answer.specs.Refusals.{refusing, allPass}
@@ -27,7 +28,7 @@ use Rattle.stamp.specs.Back.{inRange, stampAt}
 use Rattle.stamp.specs.Promise.{Reads}
 use Rattle.stamp.proofs.Promise.{back-reads, in-range-reads, reads-stamp}
 use Rattle.text.specs.Text.{textOf, writeTests, textAt, writeText, writeTextAfter}
-use Rattle.text.specs.Promise.{Known, WrittenExactly}
+use Rattle.text.specs.Promise.{Known, WrittenExactly, WritesText}
 
 -- ---- which of a call's four tests decides
 
@@ -135,3 +136,32 @@ module _ (t : Table) (k : ℕ) (x : ℤ) (p d : ℕ) (buffer : List ℕ) where
             its-bytes (w .0) r h (subst (λ (b : List ℕ). length b ≤ length buffer) same (w .1 .2));
         or-nothing = writer (writeTests t x p k d) text buffer .or-nothing;
       }
+
+-- ---- a text that is written
+
+-- is that of the instant's reading
+pub record Written (t : Table) (x : ℤ) (p k d : ℕ) (text : List ℕ) : Type 0 where
+  pub known : Known t k p d
+  pub reading : Reading
+  pub reads : Reads t (scaleOf k) reading x
+  pub text-is : text ≡ textOf p d reading
+
+pub written-is : (t : Table) (x : ℤ) (p k d : ℕ) (text : List ℕ) → WritesText t x p k d text → Written t x p k d text
+written-is t x p k d text w =
+    let call = written-exactly t k x p d (w .buffer) in
+    let e : writtenResults (writeText t x p k d (w .buffer)) .0 ≡ 0 = ap (λ v. v .0) (w .answer) in
+    let g = call .success .0 e in
+    let b = call .as-text (g .1 .0) (g .1 .1) e in
+    record {
+      known = g .0;
+      reading = g .1 .0;
+      reads = g .1 .1;
+      text-is = sym (w .bytes) ∙ ap (take (w .size)) (b .1) ∙ over-front (textOf p d (g .1 .0)) (w .buffer) (ap (λ v. v .1) (sym (b .0) ∙ w .answer));
+    }
+
+-- and each such text is written, to a buffer as long as it
+pub is-written : (t : Table) (x : ℤ) (p k d : ℕ) (r : Reading) → Known t k p d → Reads t (scaleOf k) r x → WritesText t x p k d (textOf p d r)
+is-written t x p k d r a h =
+    let text = textOf p d r in
+    let b = its-bytes t k x p d text a r h (omega arith) in
+    record { buffer = text; size = length text; answer = b .0; bytes = ap (take (length text)) (b .1) ∙ over-front text text refl }

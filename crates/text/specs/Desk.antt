@@ -26,7 +26,6 @@ shapeless =
     ∷ "1972 JAN  1 00:00:00"
     ∷ []
 
--- each is refused with number 2, and zero in the rest
--- it is refused with SHAPE
+-- it is refused with SHAPE, 2, and zero in the rest
 abbrev pub Shapeless : String → Type 0
 Shapeless text = textResults (readText bulletinC 0 (ascii text)) ≡ (2, pos 0, noStamp)

@@ -1,4 +1,4 @@
--- What is promised of text, in the scope's numbers: how long a text is, what each text is read as or refused for, what is written for each instant, and that it reads back.
+-- What is promised of text, in the scope's numbers: how long a text is, what each text is read as or refused for, what is written for each instant, that it reads back, and that it sorts.
 -- Nothing here speaks of the reader's own steps, or of the way from an instant to its stamp.
 -- Assumes nothing.
 use mathlib.Core.Path.{_≡_}
@@ -10,6 +10,7 @@ use lib.Dec.{eqb}
 use lib.IntN.{ℤ}
 use lib.ListN.{length, take, getD}
 use lib.Signed.{_≤ℤ_}
+use Rattle.laws.specs.Order.{Compare, NotGreater}
 use Rattle.laws.specs.Placed.{over}
 use Rattle.answer.specs.Refusals.{refusing}
 use Rattle.answer.specs.Buffers.{writtenResults}
@@ -80,6 +81,13 @@ pub record WrittenExactly (t : Table) (k : ℕ) (x : ℤ) (p digits : ℕ) (buff
   -- a refusal leaves every byte of the buffer
   pub or-nothing : (writtenResults (writeText t x p k digits buffer) .0 ≡ 0 → ⊥) → writeTextAfter t x p k digits buffer ≡ buffer
 
+-- `write_text` writes this text for the instant x, to some buffer: these are as many bytes in front as it answers
+pub record WritesText (t : Table) (x : ℤ) (p k digits : ℕ) (text : List ℕ) : Type 0 where
+  pub buffer : List ℕ
+  pub size : ℕ
+  pub answer : writtenResults (writeText t x p k digits buffer) ≡ (0, size)
+  pub bytes : take size (writeTextAfter t x p k digits buffer) ≡ text
+
 -- ---- reading what is written
 
 -- an instant that so many digits can show
@@ -94,15 +102,25 @@ pub record Latest (t : Table) (s : Scale) (digits : ℕ) (x y : ℤ) : Type 0 wh
   pub not-after : y ≤ℤ x
   pub last : (w : ℤ) → Showable t s digits w → w ≤ℤ x → w ≤ℤ y
 
--- in any picture, on any scale, in any buffer that has room
+-- in any picture, on any scale
 pub record ReadsBack (t : Table) (k : ℕ) : Type 0 where
   -- what is written with six digits reads back as the instant
-  pub six : (x : ℤ) (p : ℕ) (buffer : List ℕ) (n : ℕ) → writtenResults (writeText t x p k 6 buffer) ≡ (0, n) → (z : Stamp) × AcceptedAs t k (take n (writeTextAfter t x p k 6 buffer)) x z
+  pub six : (x : ℤ) (p : ℕ) (text : List ℕ) → WritesText t x p k 6 text → (z : Stamp) × AcceptedAs t k text x z
   -- with any number of digits as the last instant not after it that they can show
-  pub cut : (x : ℤ) (p digits : ℕ) (buffer : List ℕ) (n : ℕ) → writtenResults (writeText t x p k digits buffer) ≡ (0, n)
-      → (y : ℤ) × (z : Stamp) × AcceptedAs t k (take n (writeTextAfter t x p k digits buffer)) y z × Latest t (scaleOf k) digits x y
+  pub cut : (x : ℤ) (p digits : ℕ) (text : List ℕ) → WritesText t x p k digits text → (y : ℤ) × (z : Stamp) × AcceptedAs t k text y z × Latest t (scaleOf k) digits x y
 
--- ---- all of it, for each table and scale number
+-- ---- sorting what is written
+
+-- the texts a and b that are written for the instants x and y, both in picture 0 or both in picture 1, and with one number of digits
+pub record SortsAsText (t : Table) (k : ℕ) : Type 0 where
+  -- with six digits they compare exactly as the instants do
+  pub six : (p : ℕ) → p ≤ 1 → (x y : ℤ) (a b : List ℕ) → WritesText t x p k 6 a → WritesText t y p k 6 b → Compare a b x y
+  -- with any number of digits the text of the instant that is not later is never the greater
+  pub any : (p digits : ℕ) → p ≤ 1 → (x y : ℤ) (a b : List ℕ) → WritesText t x p k digits a → WritesText t y p k digits b → x ≤ℤ y → NotGreater a b
+  -- a text that is given counts too: it is what is written for the instant that it is read as
+  pub given : (x : ℤ) (text : List ℕ) (z : Stamp) → AcceptedAs t k text x z → (p : ℕ) × (digits : ℕ) × WritesText t x p k digits text
+
+-- ---- reading and writing, for each table and scale number
 
 pub record Promised (t : Table) (k : ℕ) : Type 0 where
   pub read : (text : List ℕ) → ReadExactly t k text
