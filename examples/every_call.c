@@ -1,7 +1,7 @@
 /* Each call of the header, once with an answer and once refused (mundreff_bulletin_c is never refused); texts with a final zero, and in order;
-   Julian dates of UTC days of each length, a tick in place, buffers of no bytes, the month that a table is vouched for with the marks of each call, the lengths
-   that are always enough and the names of the refusals. It is C and C++. It says where an answer is another than the header's, and ends with
-   status 1. */
+   Julian dates of UTC days of each length, a tick in place, buffers of no bytes, the month that a table is vouched for with the marks of each
+   call, the lengths that are always enough and the names of the refusals. It is C and C++. It says where an answer is another than the
+   header's, and ends with status 1. */
 #include <stdio.h>
 #include <string.h>
 #include "mundreff.h"

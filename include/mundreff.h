@@ -205,8 +205,8 @@ MUNDREFF_CHECKED static inline uint32_t mundreff_read_string(const mundreff_tabl
 
 /* Writes an instant in a picture with 0 to 6 digits after the point, cut and never rounded up, with no final zero, and gives the length.
    Note the order, picture and then scale: their numbers overlap, so a swap is not noticed.
-   With 6 digits two texts of picture 0, or two of picture 1, written on one scale under one table, compare by memcmp exactly as their instants do,
-   added seconds too; with fewer, as many in both, the earlier instant's text is never the greater. Picture 2 has names of months and does not sort.
+   With 6 digits two texts of picture 0, or two of picture 1, written on one scale under one table, have one length and compare by memcmp exactly as their
+   instants do, added seconds too; with fewer, as many in both, the earlier instant's text is never the greater. Picture 2 has names of months and does not sort.
    Refusals: ASK, TABLE, RANGE, ROOM. */
 MUNDREFF_CHECKED uint32_t mundreff_write_text(const mundreff_table *table, int64_t instant, uint32_t picture, uint32_t scale, uint32_t digits, char *out, size_t room, size_t *length, uint32_t *marks);
 

@@ -26,7 +26,7 @@ use Rattle.labels.proofs.Exists.{second-few}
 use Rattle.labels.proofs.Order.{order, order-back}
 use Rattle.labels.proofs.Admitted.{admitted-to, admitted-from}
 use Rattle.labels.proofs.Years.{axis-second, first-second, last-second, days-last, days-end}
-use Rattle.labels.proofs.Labelled.{At, at-covered, one, found as found-second}
+use Rattle.labels.proofs.Labelled.{At, at-covered, one, standing}
 use Rattle.clock.specs.declared.TickAnswer.{TickAnswer}
 use Rattle.clock.specs.declared.TickAnswer.the-variants.{Next, Refused}
 use Rattle.clock.specs.Clock.{start, tick, tickResults, onward, after}
@@ -84,7 +84,7 @@ module _ (t : Table) (ok : accepted t ≡ true) where
   unfolding o tai
   found l e =
       let a = admitted-to (offsetAt t) 60 (whole l) e in
-      let f = found-second o st l (a .since-1972) (a .until-9999) (a .exists) in
+      let f = standing o st 60 (whole l) a in
       let s = f .0 in
       let v = at-covered o st l s (f .1) in
       let back : 62230291210 + (s - 62230291210) ≡ s = omega (arith, v .begun, ten, days-1972) in

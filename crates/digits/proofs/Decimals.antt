@@ -63,9 +63,12 @@ pub value-most : (b : ℕ) → digitValue b ≤ 9
 unfolding digitValue
 value-most b = pick (λ (v : ℕ). v ≤ 9) (isDigit b) (λ e. omega (arith, digit-range b e)) (λ e. omega arith)
 
+-- the leading digit and the others
+pub leading : (w n : ℕ) → n / 10 ^ w % 10 * 10 ^ w + n % 10 ^ w ≡ n % 10 ^ suc w
+leading w n = rw (pow-succ', mod-mul n {m = 10} {c = 10 ^ w} (lit< tt) (one-le-pow w 10 (lit< tt)))
+
 lead : (w n a : ℕ) → (a * 10 + n / 10 ^ w % 10) * 10 ^ w + n % 10 ^ w ≡ a * 10 ^ suc w + n % 10 ^ suc w
-lead w n a =
-    rw (pow-succ', mod-mul n {m = 10} {c = 10 ^ w} (lit< tt) (one-le-pow w 10 (lit< tt)), add-mul, mul-assoc, add-assoc)
+lead w n a = rw (← leading w n, pow-succ', add-mul, mul-assoc, add-assoc)
 
 spelled-digits : (w n a : ℕ) → spelled a (digitsOf w n) ≡ a * 10 ^ w + n % 10 ^ w
 unfolding spelled

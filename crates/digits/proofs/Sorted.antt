@@ -1,39 +1,27 @@
 -- Digits at a fixed width are in order as their numbers are, and so are rows of numbers, each at its own width.
 -- Assumes nothing.
-use mathlib.Core.Path.{_≡_, refl, sym, ap, _∙_}
-use mathlib.Core.Logic.{_⊎_, inl, inr}
+use mathlib.Core.Path.{sym, ap, _∙_}
+use mathlib.Core.Logic.{inl, inr, ⊎-elim}
 use mathlib.Core.List.{List, [], _∷_, _++_}
-use Prim.Native.Nat.{ℕ, zero, suc, _+_, _*_, _/_, _%_, _^_, _≤_, _<_}
-use native.Mathlib.Nat.{pow-succ', mod-eq-of-lt, mod-lt, one-le-pow, mul-le-mul-right, add-mul, one-mul}
+use Prim.Native.Nat.{ℕ, zero, suc, _+_, _*_, _/_, _%_, _^_, _<_}
+use native.Mathlib.Nat.{mod-eq-of-lt, mod-lt, one-le-pow, mul-le-mul-right}
 use native.Mathlib.Omega.{arith}
-use lib.Arith.{mod-mul}
 use lib.Dec.{lit<}
-use lib.ListN.{length}
 use Rattle.laws.specs.Order.{Less}
 use Rattle.laws.proofs.Cases.{lt-cases}
 use Rattle.laws.proofs.Order.{less-front, less-behind}
 use Rattle.digits.specs.Decimals.{digitsOf}
-use Rattle.digits.proofs.Decimals.{digits-length}
+use Rattle.digits.proofs.Decimals.{leading, digits-length}
 
 -- the first digit that differs decides
 digits-less : (w n m : ℕ) → n % 10 ^ w < m % 10 ^ w → Less (digitsOf w n) (digitsOf w m)
 unfolding Less
 digits-less zero n m h = absurd (omega arith)
-digits-less (suc w) n m h = go (lt-cases (n / p % 10) (m / p % 10)) (digits-less w n m)
-  where
-    p : ℕ
-    p = 10 ^ w
-
-    some : 1 ≤ p
-    some = one-le-pow w 10 (lit< tt)
-
-    parts : (k : ℕ) → k / p % 10 * p + k % p ≡ k % 10 ^ suc w
-    parts k = sym (mod-mul k {m = 10} {c = p} (lit< tt) some) ∙ ap (λ (q : ℕ). k % q) (sym (pow-succ' 10 w))
-
-    go : (n / p % 10 < m / p % 10) ⊎ ((n / p % 10 ≡ m / p % 10) ⊎ (m / p % 10 < n / p % 10)) → (n % p < m % p → Less (digitsOf w n) (digitsOf w m)) → Less (digitsOf (suc w) n) (digitsOf (suc w) m)
-    go (inl q) rest = inl (omega arith)
-    go (inr (inl q)) rest = inr (ap (λ (d : ℕ). 48 + d) q, rest (omega (arith, parts n, parts m, ap (λ (d : ℕ). d * p) q)))
-    go (inr (inr q)) rest = absurd (omega (arith, parts n, parts m, mod-lt m some, mul-le-mul-right p q))
+digits-less (suc w) n m h =
+    ⊎-elim (λ q. inl (omega arith))
+    (⊎-elim (λ q. inr (ap (λ (d : ℕ). 48 + d) q, digits-less w n m (omega (arith, leading w n, leading w m, ap (λ (d : ℕ). d * 10 ^ w) q))))
+    (λ q. absurd (omega (arith, leading w n, leading w m, mod-lt m (one-le-pow w 10 (lit< tt)), mul-le-mul-right (10 ^ w) q))))
+    (lt-cases (n / 10 ^ w % 10) (m / 10 ^ w % 10))
 
 -- a row of numbers as text: each at its width, and behind it the bytes that stand there
 abbrev pub atWidths : List (ℕ × List ℕ) → List ℕ → List ℕ

@@ -18,7 +18,7 @@ use Rattle.labels.specs.Seconds.{axisOf}
 use Rattle.labels.proofs.Order.{order, from-fields, same-second}
 use Rattle.labels.proofs.Admitted.{Admitted}
 use Rattle.labels.proofs.Years.{axis-second}
-use Rattle.labels.proofs.Labelled.{At, found}
+use Rattle.labels.proofs.Labelled.{At, standing}
 
 -- what a reading shows, from the year to the microsecond
 abbrev pub numbers : Reading → List ℕ
@@ -30,14 +30,10 @@ same-reading r q e =
     ap₂ (λ (l : Label) (u : ℕ). record { label = l; micro = u }) (from-fields (r .label) (q .label) (ap (take 6) e)) (ap (λ (n : List ℕ). getD n 6 0) e)
 
 module _ (o : Offsets) (st : Steps o) (most : ℕ) where
-  -- the second of the axis that a reading's label stands for
-  second : (r : Reading) → Admitted o most r → (s : ℕ) × At o (r .label) s
-  second r a = found o st (r .label) (a .since-1972) (a .until-9999) (a .exists)
-
   lesser : (r q : Reading) → Admitted o most r → Admitted o most q → Less (numbers r) (numbers q) → axisOf o r <ℤ axisOf o q
   lesser r q a b h =
-      let s = second r a in
-      let z = second q b in
+      let s = standing o st most r a in
+      let z = standing o st most q b in
       rw (axis-second o r (s .0) (s .1 .stands), axis-second o q (z .0) (z .1 .stands)) (lt-from _ _ (go (s .0) (z .0) (s .1) (z .1) (less-last (fields (r .label)) (fields (q .label)) (r .micro) (q .micro) refl h)))
     where
       go : (s z : ℕ) → At o (r .label) s → At o (q .label) z → Before (r .label) (q .label) ⊎ ((fields (r .label) ≡ fields (q .label)) × (r .micro < q .micro))

@@ -9,12 +9,14 @@ use Rattle.laws.proofs.Offsets.{Steps}
 use Rattle.months.specs.Months.{daysBefore}
 use Rattle.months.proofs.Laws.{days-1972, days-mono, days-next, days-most, length-most}
 use Rattle.labels.specs.declared.Label.{Label}
+use Rattle.labels.specs.declared.Reading.{Reading}
 use Rattle.labels.specs.Labels.{Offsets, monthOf}
 use Rattle.labels.specs.Seconds.{firstMonth, lastMonth, endMonth, secondOf}
 use Rattle.labels.specs.Back.{placeIn, placeAt, labelOf, labelAt, monthAt}
 use Rattle.labels.proofs.Falls.{In, Covered, since-is, before-later, month-at}
 use Rattle.labels.proofs.Exists.{Exists, label-exists, label-second, label-month, second-falls, label-back}
 use Rattle.labels.proofs.Order.{Stands}
+use Rattle.labels.proofs.Admitted.{Admitted}
 use Rattle.labels.proofs.Guess.{falls, month-is, not-past, not-early}
 
 -- the label exists, in the years that have labels, and stands for second s of the axis
@@ -61,6 +63,10 @@ module _ (o : Offsets) (st : Steps o) where
         secondOf l + up (o m) - down (o m),
         record { since-1972 = low; until-9999 = high; exists = e; stands = omega (arith, days-1972, days-mono firstMonth m (omega arith), st .low m) },
       )
+
+  -- of an admitted reading
+  pub standing : (most : ℕ) (r : Reading) → Admitted o most r → (s : ℕ) × At o (r .label) s
+  standing most r a = found (r .label) (a .since-1972) (a .until-9999) (a .exists)
 
   -- ---- from a second to its label and back
 

@@ -1,7 +1,7 @@
 -- The order of labels is the order of their seconds.
 -- Assumes nothing.
 use mathlib.Core.Path.{_≡_, ap}
-use mathlib.Core.Logic.{_⊎_, inl, inr}
+use mathlib.Core.Logic.{inl, inr}
 use mathlib.Core.List.{List}
 use Prim.Native.Nat.{ℕ, _+_, _*_, _<_}
 use native.Mathlib.Omega.{arith}
@@ -9,7 +9,7 @@ use lib.ListN.{getD}
 use Rattle.laws.specs.Order.{Less}
 use Rattle.laws.proofs.Cases.{by-order}
 use Rattle.laws.proofs.Difference.{up, down}
-use Rattle.laws.proofs.Order.{one-is-less}
+use Rattle.laws.proofs.Order.{by-less}
 use Rattle.months.specs.Months.{daysBefore, monthLength}
 use Rattle.labels.specs.declared.Label.{Label}
 use Rattle.labels.specs.Labels.{Offsets, label, monthOf, fields, Before}
@@ -62,9 +62,7 @@ pub same-second : (o : Offsets) (l l′ : Label) (s s′ : ℕ) → Stands o l s
 same-second o l l′ s s′ h h′ e = let m = ap monthOf e in omega (arith, ap secondOf e, ap up (ap o m), ap down (ap o m))
 
 pub order-back : (o : Offsets) → Steps o → (l l′ : Label) → Exists o l → Exists o l′ → (s s′ : ℕ) → Stands o l s → Stands o l′ s′ → s < s′ → Before l l′
-order-back o st l l′ e e′ s s′ h h′ p = go (one-is-less (fields l) (fields l′))
-  where
-    go : Before l l′ ⊎ ((fields l ≡ fields l′) ⊎ Before l′ l) → Before l l′
-    go (inl b) = b
-    go (inr (inl q)) = absurd (omega (arith, same-second o l l′ s s′ h h′ (from-fields l l′ q)))
-    go (inr (inr b)) = absurd (omega (arith, order o st l′ l e′ e s′ s h′ h b))
+order-back o st l l′ e e′ s s′ h h′ p =
+    by-less (fields l) (fields l′) (λ b. b)
+    (λ q. absurd (omega (arith, same-second o l l′ s s′ h h′ (from-fields l l′ q))))
+    (λ b. absurd (omega (arith, order o st l′ l e′ e s′ s h′ h b)))

@@ -100,9 +100,9 @@ admitted o most r = allPass (labelTests o most r)
 
 -- ---- their order
 
--- that of the calendar: the first number that differs decides
 abbrev pub fields : Label → List ℕ
 fields l = l .year ∷ l .month ∷ l .day ∷ l .hour ∷ l .minute ∷ l .second ∷ []
 
+-- that of the calendar: the first number that differs decides
 abbrev pub Before : Label → Label → Type 0
 Before l l′ = Less (fields l) (fields l′)

@@ -2,7 +2,7 @@
 -- To use: `compare` asks for one way of each comparison and gives both; `onto` and `over-map` carry it to other rows and to other numbers.
 -- Assumes nothing.
 use mathlib.Core.Path.{_≡_, refl, sym, subst}
-use mathlib.Core.Logic.{_⊎_, inl, inr}
+use mathlib.Core.Logic.{_⊎_, inl, inr, ⊎-elim, ⊎-map}
 use mathlib.Core.List.{List, [], _∷_, _++_}
 use Prim.Native.Nat.{ℕ, zero, suc, _+_, _<_}
 use native.Mathlib.Omega.{arith}
@@ -16,7 +16,7 @@ use Rattle.laws.proofs.Difference.{up, down, integers, lt-from, le-from
 -- ---- one of three
 
 -- one row is less, or they are equal
-pub one-is-less : (a b : List ℕ) → Less a b ⊎ ((a ≡ b) ⊎ Less b a)
+one-is-less : (a b : List ℕ) → Less a b ⊎ ((a ≡ b) ⊎ Less b a)
 unfolding Less
 one-is-less [] [] = inr (inl refl)
 one-is-less [] (y ∷ b) = inl tt
@@ -31,7 +31,7 @@ one-is-less (x ∷ a) (y ∷ b) = go (lt-cases x y) (one-is-less a b)
     go (inr (inl q)) (inr (inr r)) = inr (inr (inr (sym q, r)))
 
 -- not both are less
-pub not-both : (a b : List ℕ) → Less a b → Less b a → ⊥
+not-both : (a b : List ℕ) → Less a b → Less b a → ⊥
 unfolding Less
 not-both [] [] p q = p
 not-both [] (y ∷ b) p q = q
@@ -42,7 +42,7 @@ not-both (x ∷ a) (y ∷ b) (inr h) (inl g) = omega (arith, h .0)
 not-both (x ∷ a) (y ∷ b) (inr h) (inr g) = not-both a b (h .1) (g .1)
 
 -- nor is one of two that are equal
-pub not-equal : {a b : List ℕ} → a ≡ b → Less a b → ⊥
+not-equal : {a b : List ℕ} → a ≡ b → Less a b → ⊥
 not-equal {a} {b} e h = not-both a b h (subst (λ (r : List ℕ). Less r a) e (subst (Less a) (sym e) h))
 
 -- ---- rows that are joined, and cut
@@ -68,11 +68,8 @@ less-last [] [] u v e (inr h) = absurd (h .1)
 less-last [] (y ∷ b) u v e h = absurd (omega arith)
 less-last (x ∷ a) [] u v e h = absurd (omega arith)
 less-last (x ∷ a) (y ∷ b) u v e (inl h) = inl (inl h)
-less-last (x ∷ a) (y ∷ b) u v e (inr h) = go (less-last a b u v (omega arith) (h .1))
-  where
-    go : Less a b ⊎ ((a ≡ b) × (u < v)) → Less (x ∷ a) (y ∷ b) ⊎ (((x ∷ a) ≡ (y ∷ b)) × (u < v))
-    go (inl p) = inl (inr (h .0, p))
-    go (inr p) = let q = h .0 in let r = p .0 in inr (cc, p .1)
+less-last (x ∷ a) (y ∷ b) u v e (inr h) =
+    ⊎-map (λ p. inr (h .0, p)) (λ p. let q = h .0 in let r = p .0 in (cc, p .1)) (less-last a b u v (omega arith) (h .1))
 
 -- where a front is less, the whole is
 pub less-cut : (n : ℕ) (a b : List ℕ) → Less (take n a) (take n b) → Less a b
@@ -87,13 +84,8 @@ less-cut (suc n) (x ∷ a) (y ∷ b) (inr h) = inr (h .0, less-cut n a b (h .1))
 -- ---- rows that compare as whole numbers do
 
 -- a case for each of the three
-by-less : {P : Type 0} (a b : List ℕ) → (Less a b → P) → (a ≡ b → P) → (Less b a → P) → P
-by-less {P} a b f g h = go (one-is-less a b)
-  where
-    go : Less a b ⊎ ((a ≡ b) ⊎ Less b a) → P
-    go (inl q) = f q
-    go (inr (inl q)) = g q
-    go (inr (inr q)) = h q
+pub by-less : {P : Type 0} (a b : List ℕ) → (Less a b → P) → (a ≡ b → P) → (Less b a → P) → P
+by-less a b f g h = ⊎-elim f (⊎-elim g h) (one-is-less a b)
 
 -- one way of each comparison is enough
 pub compare : {a b : List ℕ} {x y : ℤ} → (Less a b → x <ℤ y) → (a ≡ b → x ≡ y) → (Less b a → y <ℤ x) → Compare a b x y
@@ -104,25 +96,23 @@ compare {a} {b} {x} {y} f g h =
       greater = (h, λ p. by-less a b (λ q. absurd (omega (arith, integers, f q))) (λ q. absurd (omega (arith, integers, g q))) (λ q. q));
     }
 
--- rows s and t stand for a and b: they keep their order
-module _ {a b s t : List ℕ} (same : a ≡ b → s ≡ t) where
-  -- so the lesser is the lesser's
-  pub reflects : (Less b a → Less t s) → Less s t → Less a b
-  reflects down h = by-less a b (λ q. q) (λ q. absurd (not-equal (same q) h)) (λ q. absurd (not-both s t h (down q)))
+-- rows s and t stand for a and b
+pub reflects : {a b s t : List ℕ} → (a ≡ b → s ≡ t) → (Less b a → Less t s) → Less s t → Less a b
+reflects {a} {b} {s} {t} same back h = by-less a b (λ q. q) (λ q. absurd (not-equal (same q) h)) (λ q. absurd (not-both s t h (back q)))
 
-  pub onto : {x y : ℤ} → (Less a b → Less s t) → (Less b a → Less t s) → Compare a b x y → Compare s t x y
-  onto up down c =
-      compare (λ h. c .less .0 (reflects down h))
-      (λ e. by-less a b (λ q. absurd (not-equal e (up q))) (c .equal .0) (λ q. absurd (not-equal (sym e) (down q))))
-      (λ h. c .greater .0 (by-less a b (λ q. absurd (not-both t s h (up q))) (λ q. absurd (not-equal (sym (same q)) h)) (λ q. q)))
+pub onto : {a b s t : List ℕ} {x y : ℤ} → (a ≡ b → s ≡ t) → (Less a b → Less s t) → (Less b a → Less t s) → Compare a b x y → Compare s t x y
+onto {a} {b} same forth back c =
+    compare (λ h. c .less .0 (reflects same back h))
+    (λ e. by-less a b (λ q. absurd (not-equal e (forth q))) (c .equal .0) (λ q. absurd (not-equal (sym e) (back q))))
+    (λ h. c .greater .0 (reflects (λ e. sym (same (sym e))) forth h))
 
 -- ---- over a map, as from instants to the axis of a scale
 
 abbrev pub NeverFalls : (ℤ → ℤ) → Type 0
 NeverFalls f = (x y : ℤ) → x ≤ℤ y → f x ≤ℤ f y
 
-abbrev pub OneToOne : (ℤ → ℤ) → Type 0
-OneToOne f = (x y : ℤ) → f x ≡ f y → x ≡ y
+abbrev pub Injective : (ℤ → ℤ) → Type 0
+Injective f = (x y : ℤ) → f x ≡ f y → x ≡ y
 
 module _ (f : ℤ → ℤ) (rises : NeverFalls f) where
   -- what is earlier on the axis is earlier
@@ -138,5 +128,5 @@ module _ (f : ℤ → ℤ) (rises : NeverFalls f) where
         no q = omega (arith, integers, h q, rises x y l)
 
     -- and where it is one to one besides, rows compare as what is mapped
-    pub over-map : OneToOne f → Compare a b (f x) (f y) → Compare a b x y
+    pub over-map : Injective f → Compare a b (f x) (f y) → Compare a b x y
     over-map one c = compare (λ q. earlier x y (c .less .0 q)) (λ q. one x y (c .equal .0 q)) (λ q. earlier y x (c .greater .0 q))

@@ -15,7 +15,7 @@ use Rattle.pictures.specs.declared.Date.{Date}
 use Rattle.pictures.specs.declared.Date.the-variants.{Numbered, OfYear, Named}
 use Rattle.pictures.specs.declared.Fields.{Fields}
 use Rattle.pictures.specs.Pictures.{fractionText, pictureText, WellFormed}
-use Rattle.pictures.specs.Promise.{showing, numbersOf, pictureOf, Sorted, TextsSorted}
+use Rattle.pictures.specs.Promise.{showing, numbersOf, pictureOf, TextsSorted}
 use Rattle.pictures.proofs.Fraction.{fraction-length, fraction-right}
 use Rattle.pictures.proofs.Promise.{before-point, cut-text}
 
@@ -44,7 +44,12 @@ all-fit f (Named m d) l w = absurd (omega arith)
 
 -- ---- with fewer it is a front of that
 
-points : (f : Fields) (d : Date) → before-point (dated f d) ≡ getD (19 ∷ 17 ∷ 20 ∷ []) (pictureOf d) 0
+-- where a picture's point stands
+point : ℕ → ℕ
+point p = getD (19 ∷ 17 ∷ 20 ∷ []) p 0
+
+points : (f : Fields) (d : Date) → before-point (dated f d) ≡ point (pictureOf d)
+unfolding point
 points f (Numbered m d) = refl
 points f (OfYear d) = refl
 points f (Named m d) = refl
@@ -59,33 +64,28 @@ front f n k e h =
 
 -- ---- so texts are in order
 
-module _ (f g : Fields) (p : pictureOf (f .date) ≡ pictureOf (g .date)) (l : pictureOf (f .date) ≤ 1) where
-  abbrev cs : List (ℕ × List ℕ)
-  cs = widths (pictureOf (f .date))
+module _ (k : ℕ) (l : k ≤ 1) where
+  text : (f : Fields) → pictureOf (f .date) ≡ k → pictureText (showing 6 f) ≡ atWidths (widths k) (numbersOf f)
+  text f p = at-widths f (f .date) (omega arith) ∙ ap (λ (j : ℕ). atWidths (widths j) (numbersOf f)) p
 
-  text-f : pictureText (showing 6 f) ≡ atWidths cs (numbersOf f)
-  text-f = at-widths f (f .date) l
+  fit : (f : Fields) → pictureOf (f .date) ≡ k → WellFormed (showing 6 f) → Fit (widths k) (numbersOf f)
+  fit f p w = subst (λ (j : ℕ). Fit (widths j) (numbersOf f)) p (all-fit f (f .date) (omega arith) w)
 
-  text-g : pictureText (showing 6 g) ≡ atWidths cs (numbersOf g)
-  text-g = at-widths g (g .date) (omega arith) ∙ ap (λ (k : ℕ). atWidths (widths k) (numbersOf g)) (sym p)
+  module _ (f g : Fields) (p : pictureOf (f .date) ≡ k) (q : pictureOf (g .date) ≡ k) where
+    same : numbersOf f ≡ numbersOf g → pictureText (showing 6 f) ≡ pictureText (showing 6 g)
+    same e = text f p ∙ ap (atWidths (widths k)) e ∙ sym (text g q)
 
-  same : numbersOf f ≡ numbersOf g → pictureText (showing 6 f) ≡ pictureText (showing 6 g)
-  same e = text-f ∙ ap (atWidths cs) e ∙ sym text-g
-
-  module _ (w : WellFormed (showing 6 f)) (v : WellFormed (showing 6 g)) where
-    fit-g : Fit cs (numbersOf g)
-    fit-g = subst (λ (k : ℕ). Fit (widths k) (numbersOf g)) (sym p) (all-fit g (g .date) (omega arith) v)
-
-    six : Less (numbersOf f) (numbersOf g) → Less (pictureText (showing 6 f)) (pictureText (showing 6 g))
-    six h = rw (text-f, text-g) (widths-less cs (numbersOf f) (numbersOf g) (all-fit f (f .date) l w) fit-g h)
+    six : WellFormed (showing 6 f) → WellFormed (showing 6 g) → Less (numbersOf f) (numbersOf g) → Less (pictureText (showing 6 f)) (pictureText (showing 6 g))
+    six w v h = rw (text f p, text g q) (widths-less (widths k) (numbersOf f) (numbersOf g) (fit f p w) (fit g q v) h)
 
 pub texts-sorted : TextsSorted
 texts-sorted f g w v p l =
+    let k = pictureOf (f .date) in
     record {
-      six = six f g p l w v;
-      any = λ k h q.
+      six = six k l f g refl (sym p) w v;
+      any = λ d h q.
           let n = before-point f in
-          let e : before-point g ≡ n = points g (g .date) ∙ ap (λ (k : ℕ). getD (19 ∷ 17 ∷ 20 ∷ []) k 0) (sym p) ∙ sym (points f (f .date)) in
-          reflects (same f g p l) (six g f (sym p) (omega arith) v w)
-          (less-cut (size n k) (pictureText (showing 6 f)) (pictureText (showing 6 g)) (rw (front f n k refl h, front g n k e h) at q));
+          let e : before-point g ≡ n = points g (g .date) ∙ ap point (sym p) ∙ sym (points f (f .date)) in
+          reflects (same k l f g refl (sym p)) (six k l g f (sym p) refl v w)
+          (less-cut (size n d) (pictureText (showing 6 f)) (pictureText (showing 6 g)) (rw (front f n d refl h, front g n d e h) at q));
     }

@@ -7,7 +7,6 @@ use Prim.Native.Nat.{ℕ, zero, suc, _+_, _-_, _*_, _/_, _%_, _^_, _≤_, _<_}
 use native.Mathlib.Nat.{zero-add, add-zero, suc-add, sub-zero, suc-sub-suc, add-mul, mul-assoc, add-assoc, pow-succ', one-le-pow, le-of-suc-le-suc, not-suc-le-zero, div-eq-of-lt, mul-add-div-right, add-mul-mod-self-right, zero-mod}
 use native.Mathlib.Omega.{arith}
 use borrow.Author.Tests.{le-leb}
-use lib.Arith.{mod-mul}
 use lib.Dec.{lit<}
 use lib.ListN.{length, take, drop, getD, replicate}
 use Rattle.laws.proofs.Cases.{both, and-l, and-r, join}
@@ -15,7 +14,7 @@ use Rattle.digits.specs.Bytes.{bytesAt}
 use Rattle.digits.specs.Decimals.{isDigit, digitValue, allDigits, digitsOf, spelled, numberAt}
 use Rattle.digits.proofs.Bytes.{bytes-length}
 use Rattle.pictures.specs.Parts.{Digits}
-use Rattle.digits.proofs.Decimals.{digit-range, value-digit, value-most, number-lt}
+use Rattle.digits.proofs.Decimals.{digit-range, value-digit, value-most, leading, number-lt}
 
 pub digit-yes : (d : ℕ) → isDigit (48 + d % 10) ≡ true
 digit-yes d = join (le-leb 48 (48 + d % 10) (omega arith)) (le-leb (48 + d % 10) 57 (omega arith))
@@ -118,7 +117,7 @@ all-zeros zero n e = refl
 all-zeros (suc w) n e =
     let p = 10 ^ w in
     let q = n / p % 10 in
-    let parts : q * p + n % p ≡ 0 = sym (mod-mul n {m = 10} {c = p} (lit< tt) (one-le-pow w 10 (lit< tt))) ∙ ap (λ (m : ℕ). n % m) (sym (pow-succ' 10 w)) ∙ e in
+    let parts : q * p + n % p ≡ 0 = leading w n ∙ e in
     let least : q ≤ q * p = at-least q p (one-le-pow w 10 (lit< tt)) in
     let digit : 48 ≡ 48 + q = omega arith in
     ap₂ _∷_ digit (all-zeros w n (omega arith))

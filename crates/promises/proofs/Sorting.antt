@@ -27,33 +27,31 @@ use Rattle.text.proofs.Writing.{is-written}
 use Rattle.text.proofs.Sorted.{sorts-as-text}
 use Rattle.promises.specs.Sorting.{RequestA5}
 
--- ---- readings of 1986, and that each of their texts is written
+-- ---- moments of 1986, and that each of their texts is written
 
-abbrev ReadsAt : Reading → ℕ → Type 0
-ReadsAt r n = Reads bulletinC (scaleOf 0) r (negℤ (pos n))
+abbrev IsAt : ℕ → Reading → Type 0
+IsAt n r = Reads bulletinC (scaleOf 0) r (negℤ (pos n))
 
-written : (r : Reading) (n p d : ℕ) → ReadsAt r n → p ≤ 2 → d ≤ 6 → WritesText bulletinC (negℤ (pos n)) p 0 d (textOf p d r)
-written r n p d h a b = is-written bulletinC (negℤ (pos n)) p 0 d r (record { a-scale = omega arith; a-picture = a; a-number = b; a-table = bulletin-accepted }) h
+record Moments : Type 0 where
+  march : IsAt 435698908000000 (at 1986 3 12 16 31 9 0)
+  april : IsAt 433020508000000 (at 1986 4 12 16 31 9 0)
+  half-past : IsAt 433020507500000 (at 1986 4 12 16 31 9 500000)
+  nine-tenths-past : IsAt 433020507100000 (at 1986 4 12 16 31 9 900000)
+  a-day-later : IsAt 432934108000000 (at 1986 4 13 16 31 9 0)
 
-march : ReadsAt (at 1986 3 12 16 31 9 0) 435698908000000
+moments : Moments
 unfolding leapYear monthLength daysBefore lastBegun offsetIn lastMinute minuteIn realYear realMonth realDay realClock hasSecond toInstant axisAt
-march = record { is-admitted = refl; instant-is = quick-instant bulletinC (scaleOf 0) (at 1986 3 12 16 31 9 0) }
+moments =
+    record {
+      march = record { is-admitted = refl; instant-is = quick-instant bulletinC (scaleOf 0) _ };
+      april = record { is-admitted = refl; instant-is = quick-instant bulletinC (scaleOf 0) _ };
+      half-past = record { is-admitted = refl; instant-is = quick-instant bulletinC (scaleOf 0) _ };
+      nine-tenths-past = record { is-admitted = refl; instant-is = quick-instant bulletinC (scaleOf 0) _ };
+      a-day-later = record { is-admitted = refl; instant-is = quick-instant bulletinC (scaleOf 0) _ };
+    }
 
-april : ReadsAt (at 1986 4 12 16 31 9 0) 433020508000000
-unfolding leapYear monthLength daysBefore lastBegun offsetIn lastMinute minuteIn realYear realMonth realDay realClock hasSecond toInstant axisAt
-april = record { is-admitted = refl; instant-is = quick-instant bulletinC (scaleOf 0) (at 1986 4 12 16 31 9 0) }
-
-half-past : ReadsAt (at 1986 4 12 16 31 9 500000) 433020507500000
-unfolding leapYear monthLength daysBefore lastBegun offsetIn lastMinute minuteIn realYear realMonth realDay realClock hasSecond toInstant axisAt
-half-past = record { is-admitted = refl; instant-is = quick-instant bulletinC (scaleOf 0) (at 1986 4 12 16 31 9 500000) }
-
-nine-tenths-past : ReadsAt (at 1986 4 12 16 31 9 900000) 433020507100000
-unfolding leapYear monthLength daysBefore lastBegun offsetIn lastMinute minuteIn realYear realMonth realDay realClock hasSecond toInstant axisAt
-nine-tenths-past = record { is-admitted = refl; instant-is = quick-instant bulletinC (scaleOf 0) (at 1986 4 12 16 31 9 900000) }
-
-a-day-later : ReadsAt (at 1986 4 13 16 31 9 0) 432934108000000
-unfolding leapYear monthLength daysBefore lastBegun offsetIn lastMinute minuteIn realYear realMonth realDay realClock hasSecond toInstant axisAt
-a-day-later = record { is-admitted = refl; instant-is = quick-instant bulletinC (scaleOf 0) (at 1986 4 13 16 31 9 0) }
+written : {n : ℕ} {r : Reading} (p d : ℕ) → p ≤ 2 → d ≤ 6 → IsAt n r → WritesText bulletinC (negℤ (pos n)) p 0 d (textOf p d r)
+written {n} {r} p d a b h = is-written bulletinC (negℤ (pos n)) p 0 d r (record { a-scale = omega arith; a-picture = a; a-number = b; a-table = bulletin-accepted }) h
 
 -- ---- all of it
 
@@ -64,20 +62,20 @@ request-a5 =
       texts-sorted = texts-sorted;
       sorts-as-text = sorts-as-text;
       names-break-it = record {
-        first-written = written (at 1986 3 12 16 31 9 0) 435698908000000 2 6 march (omega arith) (omega arith);
-        second-written = written (at 1986 4 12 16 31 9 0) 433020508000000 2 6 april (omega arith) (omega arith);
+        first-written = written 2 6 (omega arith) (omega arith) (moments .march);
+        second-written = written 2 6 (omega arith) (omega arith) (moments .april);
         first-earlier = lt-from _ _ (omega arith);
         first-greater = less-behind (ascii "1986 ") (ascii "APR 12 16:31:09.000000") (ascii "MAR 12 16:31:09.000000") (inl (omega arith));
       };
       digits-break-it = record {
-        first-written = written (at 1986 4 12 16 31 9 500000) 433020507500000 0 6 half-past (omega arith) (omega arith);
-        second-written = written (at 1986 4 12 16 31 9 900000) 433020507100000 0 0 nine-tenths-past (omega arith) (omega arith);
+        first-written = written 0 6 (omega arith) (omega arith) (moments .half-past);
+        second-written = written 0 0 (omega arith) (omega arith) (moments .nine-tenths-past);
         first-earlier = lt-from _ _ (omega arith);
         first-greater = less-behind (ascii "1986-04-12T16:31:09") [] (ascii ".500000") tt;
       };
       pictures-break-it = record {
-        first-written = written (at 1986 4 12 16 31 9 0) 433020508000000 1 6 april (omega arith) (omega arith);
-        second-written = written (at 1986 4 13 16 31 9 0) 432934108000000 0 6 a-day-later (omega arith) (omega arith);
+        first-written = written 1 6 (omega arith) (omega arith) (moments .april);
+        second-written = written 0 6 (omega arith) (omega arith) (moments .a-day-later);
         first-earlier = lt-from _ _ (omega arith);
         first-greater = less-behind (ascii "1986-") (ascii "04-13T16:31:09.000000") (ascii "102T16:31:09.000000") (inl (omega arith));
       };

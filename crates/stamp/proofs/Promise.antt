@@ -26,7 +26,7 @@ use Rattle.labels.specs.Back.{labelAt, readingAt}
 use Rattle.labels.proofs.Falls.{Covered}
 use Rattle.labels.proofs.Admitted.{Admitted, admitted-to, admitted-from}
 use Rattle.labels.proofs.Years.{axis-second, covered-to, covered-from}
-use Rattle.labels.proofs.Labelled.{At, at-covered, at-label, found, label-at}
+use Rattle.labels.proofs.Labelled.{At, at-covered, at-label, standing, label-at}
 use Rattle.stamp.specs.declared.Scale.{Scale}
 use Rattle.stamp.specs.declared.Stamp.{Stamp}
 use Rattle.stamp.specs.declared.InstantAnswer.{InstantAnswer}
@@ -52,33 +52,33 @@ module _ (t : Table) (acc : Accepted t) (sc : Scale) where
 
   module _ (r : Reading) (a : Admitted o (mostSecond sc) r) where
     -- its label's second of the axis, and its microsecond
-    standing : (s : ℕ) × At o (r .label) s
-    standing = found o st (r .label) (a .since-1972) (a .until-9999) (a .exists)
+    at : (s : ℕ) × At o (r .label) s
+    at = standing o st (mostSecond sc) r a
 
     c : ℕ
-    c = 1000000 * standing .0 + r .micro
+    c = 1000000 * at .0 + r .micro
 
-    second-is : c / 1000000 ≡ standing .0
+    second-is : c / 1000000 ≡ at .0
     unfolding c
     second-is = omega (arith, a .on-clock .micro-high)
 
     axis-is : toAxis sc (instantFor t sc r) ≡ pos c
     unfolding o c
-    axis-is = axis-back sc (axisOf (offsetsOf t sc) r) ∙ axis-second (offsetsOf t sc) r (standing .0) (standing .1 .stands)
+    axis-is = axis-back sc (axisOf (offsetsOf t sc) r) ∙ axis-second (offsetsOf t sc) r (at .0) (at .1 .stands)
 
     there-in-range : inRange t sc (instantFor t sc r) ≡ true
     unfolding o
     there-in-range =
         subst (λ (z : ℤ). inYears (offsetsOf t sc) z ≡ true) (sym axis-is)
-        (covered-from o st c (subst (Covered o) (sym second-is) (at-covered o st (r .label) (standing .0) (standing .1))))
+        (covered-from o st c (subst (Covered o) (sym second-is) (at-covered o st (r .label) (at .0) (at .1))))
 
     there-back : stampAt t sc (instantFor t sc r) ≡ stamp sc r
     unfolding o c
     there-back =
-        let n : axisCount sc (instantFor t sc r) ≡ 1000000 * standing .0 + r .micro = ap (λ (z : ℤ). natAbs z) axis-is in
-        let p : axisCount sc (instantFor t sc r) / 1000000 ≡ standing .0 = omega (arith, n, a .on-clock .micro-high) in
+        let n : axisCount sc (instantFor t sc r) ≡ 1000000 * at .0 + r .micro = ap (λ (z : ℤ). natAbs z) axis-is in
+        let p : axisCount sc (instantFor t sc r) / 1000000 ≡ at .0 = omega (arith, n, a .on-clock .micro-high) in
         let q : axisCount sc (instantFor t sc r) % 1000000 ≡ r .micro = omega (arith, n, a .on-clock .micro-high) in
-        ap₂ (λ (l : Label) (u : ℕ). stamp sc (record { label = l; micro = u })) (ap (labelAt (offsetsOf t sc)) p ∙ at-label (offsetsOf t sc) st (r .label) (standing .0) (standing .1)) q
+        ap₂ (λ (l : Label) (u : ℕ). stamp sc (record { label = l; micro = u })) (ap (labelAt (offsetsOf t sc)) p ∙ at-label (offsetsOf t sc) st (r .label) (at .0) (at .1)) q
 
   -- ---- from an instant to its stamp and back
 
@@ -111,6 +111,10 @@ module _ (t : Table) (acc : Accepted t) (sc : Scale) where
               });
           instant-is = instant-again;
         }
+
+-- an instant's place on the axis is that of the reading which stands for it
+pub on-axis : (t : Table) (s : Scale) (r : Reading) (x : ℤ) → Reads t s r x → toAxis s x ≡ axisOf (offsetsOf t s) r
+on-axis t s r x h = ap (toAxis s) (sym (h .instant-is)) ∙ axis-back s (axisOf (offsetsOf t s) r)
 
 -- ---- in range are exactly the instants that a reading stands for, and its stamp is that reading
 

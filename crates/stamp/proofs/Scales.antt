@@ -10,7 +10,7 @@ use Rattle.laws.proofs.Cases.{pick}
 use Rattle.laws.proofs.Difference.{up, down, sum-is, diff-is, eq-from, le-to, le-from}
 use Rattle.laws.proofs.Machine.{Within}
 use Rattle.laws.proofs.Offsets.{Steps, uniform-steps}
-use Rattle.laws.proofs.Order.{NeverFalls, OneToOne}
+use Rattle.laws.proofs.Order.{NeverFalls, Injective}
 use Rattle.leap.specs.declared.Table.{Table}
 use Rattle.leap.proofs.Facts.{Accepted}
 use Rattle.leap.proofs.Moves.{at-first, steps-by-months}
@@ -93,5 +93,5 @@ instant-back s x = eq-from (toInstant s (toAxis s x)) x (omega (arith, to-instan
 pub axis-rises : (s : Scale) → NeverFalls (toAxis s)
 axis-rises s x y h = le-from (toAxis s x) (toAxis s y) (omega (arith, to-axis-is s x, to-axis-is s y, le-to h))
 
-pub axis-one-to-one : (s : Scale) → OneToOne (toAxis s)
+pub axis-one-to-one : (s : Scale) → Injective (toAxis s)
 axis-one-to-one s x y e = sym (instant-back s x) ∙ ap (toInstant s) e ∙ instant-back s y

@@ -27,10 +27,10 @@ use Rattle.stamp.proofs.Ranges.{range-count}
 use Rattle.pictures.specs.Pictures.{dateText, clockText, pictureText}
 use Rattle.text.specs.Text.{dateAs, textOf, readText, textResults}
 use Rattle.stamp.proofs.Promise.{in-range-reads, reads-stamp}
-use Rattle.text.specs.Promise.{Known, AcceptedAs, Names, WritesText, Showable, Latest, ReadsBack}
+use Rattle.text.specs.Promise.{AcceptedAs, Names, WritesText, Showable, Latest, ReadsBack}
 use Rattle.pictures.proofs.Fraction.{fraction-cut}
 use Rattle.text.proofs.Exactly.{read-exactly}
-use Rattle.text.proofs.Writing.{written-is}
+use Rattle.text.proofs.Writing.{Written, written-is, is-written}
 
 -- ---- a reading cut to its first digits
 
@@ -76,19 +76,16 @@ mod-le u q = omega (arith, div-add-mod' u q)
 
 -- ---- an instant that is written
 
-module _ (t : Table) (k : ℕ) (x : ℤ) (p d : ℕ) (text : List ℕ) (w : WritesText t x p k d text) where
+module _ (t : Table) (x : ℤ) (p k d : ℕ) (text : List ℕ) (v : Written t x p k d text) where
   r : Reading
-  r = written-is t x p k d text w .reading
+  r = v .reading
 
   sc : Scale
   sc = scaleOf k
 
-  known : Known t k p d
-  known = written-is t x p k d text w .known
-
   reads : Reads t sc r x
   unfolding r sc
-  reads = written-is t x p k d text w .reads
+  reads = v .reads
 
   r′ : Reading
   r′ = cutTo d r
@@ -102,11 +99,11 @@ module _ (t : Table) (k : ℕ) (x : ℤ) (p d : ℕ) (text : List ℕ) (w : Writ
 
   names : Names t k (textOf p d r) y r′
   unfolding r′ sc cutTo
-  names = record { picture = p; digits = d; known = known; reads = cut-reads; enough = cut-shown d (r .micro) (known .a-number); text-is = text-cut p d r (known .a-number) }
+  names = record { picture = p; digits = d; known = v .known; reads = cut-reads; enough = cut-shown d (r .micro) (v .known .a-number); text-is = text-cut p d r (v .known .a-number) }
 
   answer : AcceptedAs t k text y (stamp (scaleOf k) r′)
   unfolding r
-  answer = ap (λ (l : List ℕ). textResults (readText t k l)) (written-is t x p k d text w .text-is) ∙ read-exactly t k (textOf p d r) .success y (stamp (scaleOf k) r′) .1 (refl, names)
+  answer = ap (λ (l : List ℕ). textResults (readText t k l)) (v .text-is) ∙ read-exactly t k (textOf p d r) .success y (stamp (scaleOf k) r′) .1 (refl, names)
 
   -- what is cut lies between the two
   apart : up y + (down x + r .micro % 10 ^ (6 - d)) ≡ up x + down y
@@ -119,32 +116,40 @@ module _ (t : Table) (k : ℕ) (x : ℤ) (p d : ℕ) (text : List ℕ) (w : Writ
   last : (w : ℤ) → Showable t sc d w → w ≤ℤ x → w ≤ℤ y
   unfolding sc
   last w s h =
-      let good = known .a-table in
+      let good = v .known .a-table in
       let acc = accepted-to t good in
       let m : axisCount sc w % 1000000 ≡ s .reading .micro = ap (λ (z : Stamp). z .reading .micro) (reads-stamp t good sc (s .reading) w (s .reads)) in
       let m′ : axisCount sc x % 1000000 ≡ r .micro = ap (λ (z : Stamp). z .reading .micro) (reads-stamp t good sc r x reads) in
       let a = range-count t acc sc w (in-range-reads t good sc w .1 (s .reading, s .reads)) in
       let c = range-count t acc sc x (in-range-reads t good sc x .1 (r, reads)) in
-      let l = subst (λ (u : ℕ). axisCount sc w + u % 10 ^ (6 - d) ≤ axisCount sc x) m′ (last-count d (axisCount sc w) (axisCount sc x) (known .a-number) (rw m (s .enough)) (omega (arith, integers))) in
+      let l = subst (λ (u : ℕ). axisCount sc w + u % 10 ^ (6 - d) ≤ axisCount sc x) m′ (last-count d (axisCount sc w) (axisCount sc x) (v .known .a-number) (rw m (s .enough)) (omega (arith, integers))) in
       le-from w y (omega (arith, apart))
 
   latest : Latest t sc d x y
   unfolding r′ cutTo
   latest =
-      record { showable = record { reading = r′; reads = cut-reads; enough = cut-shown d (r .micro) (known .a-number) }; not-after = le-from y x (omega (arith, apart)); last = last }
+      record { showable = record { reading = r′; reads = cut-reads; enough = cut-shown d (r .micro) (v .known .a-number) }; not-after = le-from y x (omega (arith, apart)); last = last }
 
 -- with six digits nothing is cut
 whole : (r : Reading) → cutTo 6 r ≡ r
 unfolding cutTo
 whole r = let e : r .micro - r .micro % 1 ≡ r .micro = omega arith in ap (λ (u : ℕ). record { label = r .label; micro = u }) e
 
+-- a text that is read is that of its reading, and so is written
+given : (t : Table) (k : ℕ) (x : ℤ) (text : List ℕ) (z : Stamp) → AcceptedAs t k text x z → (p : ℕ) × (d : ℕ) × WritesText t x p k d text
+given t k x text z e =
+    let n = read-exactly t k text .success x z .0 e .1 in
+    (n .picture, n .digits, subst (WritesText t x (n .picture) k (n .digits)) (sym (n .text-is)) (is-written t x (n .picture) k (n .digits) (z .reading) (n .known) (n .reads)))
+
 pub back : (t : Table) (k : ℕ) → ReadsBack t k
 unfolding r′ y sc
 back t k =
     record {
-      six = λ x p text w.
-          let q = r t k x p 6 text w in
-          let i = ap (instantFor t (scaleOf k)) (whole q) ∙ reads t k x p 6 text w .instant-is in
-          (stamp (scaleOf k) (cutTo 6 q), answer t k x p 6 text w ∙ ap (λ (w : ℤ). (0, w, stamp (scaleOf k) (cutTo 6 q))) i);
-      cut = λ x p d text w. (y t k x p d text w, stamp (scaleOf k) (r′ t k x p d text w), answer t k x p d text w, latest t k x p d text w);
+      six = λ x p text e.
+          let v = written-is t x p k 6 text e in
+          let q = r t x p k 6 text v in
+          let i = ap (instantFor t (scaleOf k)) (whole q) ∙ reads t x p k 6 text v .instant-is in
+          (stamp (scaleOf k) (cutTo 6 q), answer t x p k 6 text v ∙ ap (λ (w : ℤ). (0, w, stamp (scaleOf k) (cutTo 6 q))) i);
+      cut = λ x p d text e. let v = written-is t x p k d text e in (y t x p k d text v, stamp (scaleOf k) (r′ t x p k d text v), answer t x p k d text v, latest t x p k d text v);
+      given = given t k;
     }

@@ -32,6 +32,7 @@ use Rattle.pictures.specs.Pictures.{fractionText, pictureText, DateFits, WellFo
 use Rattle.pictures.specs.Promise.{pictureOf}
 use Rattle.pictures.specs.Reading.{readFields}
 use Rattle.pictures.proofs.Promise.{shown, back}
+use Rattle.labels.specs.declared.Label.{Label}
 use Rattle.labels.specs.declared.Reading.{Reading}
 use Rattle.stamp.specs.declared.Scale.{Scale}
 use Rattle.stamp.specs.declared.Stamp.{Stamp}
@@ -81,6 +82,12 @@ module _ (o : Offsets) (most : ℕ) (r : Reading) (a : Admitted o most r) (few :
   well-formed p digits h g e =
       let c = a .on-clock in
       record { year = omega (arith, a .until-9999); date = date-fits p h; hour = omega (arith, c .hour-high); minute = omega (arith, c .minute-high); second = omega (arith, c .second-most); digits = g; micro = omega (arith, c .micro-high); shown = e }
+
+pub is-picture : (p : ℕ) (l : Label) → p ≤ 2 → pictureOf (dateAs p l) ≡ p
+is-picture zero l h = refl
+is-picture (suc zero) l h = refl
+is-picture (suc (suc zero)) l h = refl
+is-picture (suc (suc (suc p))) l h = absurd (omega arith)
 
 -- and back: an admitted reading of fields has these fields, in the picture of their date
 a-picture : (d : Date) → pictureOf d ≤ 2

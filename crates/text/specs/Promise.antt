@@ -108,6 +108,8 @@ pub record ReadsBack (t : Table) (k : ℕ) : Type 0 where
   pub six : (x : ℤ) (p : ℕ) (text : List ℕ) → WritesText t x p k 6 text → (z : Stamp) × AcceptedAs t k text x z
   -- with any number of digits as the last instant not after it that they can show
   pub cut : (x : ℤ) (p digits : ℕ) (text : List ℕ) → WritesText t x p k digits text → (y : ℤ) × (z : Stamp) × AcceptedAs t k text y z × Latest t (scaleOf k) digits x y
+  -- and a text that is read is what is written for the instant that it is read as
+  pub given : (x : ℤ) (text : List ℕ) (z : Stamp) → AcceptedAs t k text x z → (p : ℕ) × (digits : ℕ) × WritesText t x p k digits text
 
 -- ---- sorting what is written
 
@@ -117,8 +119,6 @@ pub record SortsAsText (t : Table) (k : ℕ) : Type 0 where
   pub six : (p : ℕ) → p ≤ 1 → (x y : ℤ) (a b : List ℕ) → WritesText t x p k 6 a → WritesText t y p k 6 b → Compare a b x y
   -- with any number of digits the text of the instant that is not later is never the greater
   pub any : (p digits : ℕ) → p ≤ 1 → (x y : ℤ) (a b : List ℕ) → WritesText t x p k digits a → WritesText t y p k digits b → x ≤ℤ y → NotGreater a b
-  -- a text that is given counts too: it is what is written for the instant that it is read as
-  pub given : (x : ℤ) (text : List ℕ) (z : Stamp) → AcceptedAs t k text x z → (p : ℕ) × (digits : ℕ) × WritesText t x p k digits text
 
 -- ---- reading and writing, for each table and scale number
 
