@@ -5,7 +5,7 @@ use mathlib.Core.Logic.{inl}
 use mathlib.Core.List.{[]}
 use Prim.Native.Nat.{ℕ, _≤_}
 use native.Mathlib.Omega.{arith}
-use lib.IntN.{pos, negℤ}
+use lib.IntN.{ℤ, pos, negℤ}
 use Rattle.laws.specs.Order.{Less}
 use Rattle.laws.proofs.Difference.{lt-from}
 use Rattle.laws.proofs.Order.{less-behind}
@@ -43,15 +43,15 @@ moments : Moments
 unfolding leapYear monthLength daysBefore lastBegun offsetIn lastMinute minuteIn realYear realMonth realDay realClock hasSecond toInstant axisAt
 moments =
     record {
-      march = record { is-admitted = refl; instant-is = quick-instant bulletinC (scaleOf 0) _ };
-      april = record { is-admitted = refl; instant-is = quick-instant bulletinC (scaleOf 0) _ };
-      half-past = record { is-admitted = refl; instant-is = quick-instant bulletinC (scaleOf 0) _ };
-      nine-tenths-past = record { is-admitted = refl; instant-is = quick-instant bulletinC (scaleOf 0) _ };
-      a-day-later = record { is-admitted = refl; instant-is = quick-instant bulletinC (scaleOf 0) _ };
+      march = record { is-admitted = refl; instant-is = quick-instant bulletinC (scaleOf 0) (at 1986 3 12 16 31 9 0) };
+      april = record { is-admitted = refl; instant-is = quick-instant bulletinC (scaleOf 0) (at 1986 4 12 16 31 9 0) };
+      half-past = record { is-admitted = refl; instant-is = quick-instant bulletinC (scaleOf 0) (at 1986 4 12 16 31 9 500000) };
+      nine-tenths-past = record { is-admitted = refl; instant-is = quick-instant bulletinC (scaleOf 0) (at 1986 4 12 16 31 9 900000) };
+      a-day-later = record { is-admitted = refl; instant-is = quick-instant bulletinC (scaleOf 0) (at 1986 4 13 16 31 9 0) };
     }
 
-written : {n : ℕ} {r : Reading} (p d : ℕ) → p ≤ 2 → d ≤ 6 → IsAt n r → WritesText bulletinC (negℤ (pos n)) p 0 d (textOf p d r)
-written {n} {r} p d a b h = is-written bulletinC (negℤ (pos n)) p 0 d r (record { a-scale = omega arith; a-picture = a; a-number = b; a-table = bulletin-accepted }) h
+written : {x : ℤ} {r : Reading} (p d : ℕ) → p ≤ 2 → d ≤ 6 → Reads bulletinC (scaleOf 0) r x → WritesText bulletinC x p 0 d (textOf p d r)
+written {x} {r} p d a b h = is-written bulletinC x p 0 d r (record { a-scale = omega arith; a-picture = a; a-number = b; a-table = bulletin-accepted }) h
 
 -- ---- all of it
 
