@@ -33,11 +33,11 @@ fn date_text(month: u32) -> [u8; 15]
     let y = digits::digits(1972 + month / 12);
     let d = digits::digits(calendar::day_of_year(leap::EPOCH + month, 1) as u32);
     [
-        y[4],
-        y[5],
-        d[3],
-        d[4],
-        d[5],
+        y[7],
+        y[8],
+        d[6],
+        d[7],
+        d[8],
         b'0',
         b'0',
         b'0',

@@ -2,16 +2,16 @@
 -- Assumes nothing.
 use mathlib.Core.Path.{_≡_, refl, sym, ap, ap₂, subst, _∙_}
 use mathlib.Core.Bool.{Bool, true, false}
-use mathlib.Core.List.{List, [], _∷_, _++_, append-assoc}
+use mathlib.Core.List.{List, [], _∷_, _++_}
 use Prim.Native.Nat.{ℕ, zero, suc, _+_, _-_, min, _≤_, _<_}
 use native.Mathlib.Omega.{arith}
 use borrow.Author.Tests.{le-leb, lt-leb, eq-eqb, eqb-true}
 use lib.Dec.{eqb}
 use lib.ListN.{length, take, drop, length-append, length-drop}
-use lib.Seq.{length-take-le, take-all, take-at}
+use lib.Seq.{length-take-le, take-all}
 use Rattle.laws.specs.Placed.{place}
-use Rattle.laws.proofs.Cases.{and-l, and-r, join}
-use Rattle.laws.proofs.Placed.{length-place, place-then}
+use Rattle.laws.proofs.Cases.{and-l, and-r}
+use Rattle.laws.proofs.Placed.{length-place, place-none, place-then}
 use Rattle.digits.specs.Bytes.{bytesAt, sameBytes, endOf, appended, Appended, Placed}
 
 pub bytes-length : (s : List ℕ) (i w : ℕ) → length (bytesAt s i w) ≡ w
@@ -67,25 +67,6 @@ module _ (l : List ℕ) (i : ℕ) (v : List ℕ) where
 pub same-text : (l : List ℕ) (i r : ℕ) {v w o : List ℕ} → v ≡ w → Appended l i v r o → Appended l i w r o
 same-text l i r {o = o} e = subst (λ (x : List ℕ). Appended l i x r o) e
 
--- two texts, the one behind the other, in a buffer with room for both
-module _ (l a b : List ℕ) (h : length a + length b ≤ length l) {m o : List ℕ} {r s : ℕ} (p : Appended l 0 a r m) (q : Appended m (length a) b s o) where
-  first : m ≡ a ++ drop (length a) l
-  unfolding appended
-  first = let z : 0 + length a ≡ length a = omega arith in p .text ∙ rw (z, le-leb (length a) (length l) (omega arith))
-
-  size : length m ≡ length l
-  size = ap length first ∙ simp (length-append, length-drop) (omega arith)
-
-  pub both : take s o ≡ a ++ b
-  unfolding endOf appended
-  both =
-      let k : length a + length b ≤ length m = omega (arith, size) in
-      let e : s ≡ length a + length b = q .end ∙ rw (le-leb (length a + length b) (length m) k) in
-      let f : o ≡ take (length a) m ++ (b ++ drop (length a + length b) m) = q .text ∙ rw (le-leb (length a + length b) (length m) k) in
-      let g : take (length a) m ≡ a = ap (take (length a)) first ∙ take-at a (drop (length a) l) (length a) refl in
-      let n : s ≡ length (a ++ b) = e ∙ sym (length-append a b) in
-      rw (n, f, g, ← append-assoc a b) (take-at (a ++ b) _ (length (a ++ b)) refl)
-
 -- ---- texts one behind the other where there is room
 
 module _ (l : List ℕ) (i : ℕ) (v : List ℕ) {r : ℕ} {o : List ℕ} (h : i + length v ≤ length l) where
@@ -108,3 +89,15 @@ module _ (l : List ℕ) (i : ℕ) (a b : List ℕ) {j r : ℕ} {m o : List ℕ} 
 
   pub placed-then : i + (length a + length b) ≤ length l → Appended m j b r o → Placed l i (a ++ b) r o
   placed-then h q = then-placed (placed m j b (omega (arith, p .end, p .size)) q)
+
+-- no text yet
+pub nothing : (l : List ℕ) (i : ℕ) → i ≤ length l → Placed l i [] i l
+nothing l i h = is-placed l i [] (omega arith) (omega arith) (sym (place-none l i))
+
+-- one text more, by the name that the whole has for it
+pub behind : {l m o a x b : List ℕ} {i j r : ℕ} → Placed l i a j m → x ≡ b → Appended m j x r o → i + (length a + length b) ≤ length l → Placed l i (a ++ b) r o
+behind {l} {m} {a = a} {b = b} {i = i} {j = j} {r = r} p e q h = placed-then l i a b p h (same-text m j r e q)
+
+-- the digits of a number from place k on, of nine
+pub digits-from : (k : ℕ) {x y : List ℕ} → x ≡ y → take (9 - k) (drop k x) ≡ take (9 - k) (drop k y)
+digits-from k = ap (λ (l : List ℕ). take (9 - k) (drop k l))

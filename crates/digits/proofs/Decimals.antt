@@ -4,7 +4,7 @@ use mathlib.Core.Path.{_≡_, refl, sym, ap, ap₂, subst, _∙_}
 use mathlib.Core.Bool.{Bool, true, false, cond, _&&_}
 use mathlib.Core.List.{List, [], _∷_, _++_}
 use Prim.Native.Nat.{ℕ, zero, suc, _+_, _-_, _*_, _/_, _%_, _^_, _≤_, _<_}
-use native.Mathlib.Nat.{zero-add, zero-mul, one-mul, add-mul, mul-assoc, add-assoc, sub-zero, suc-add, suc-sub-suc, pow-succ', mod-eq-of-lt, one-le-pow, mul-le-mul-right, lt-of-lt-of-le, le-of-suc-le-suc, not-suc-le-zero, div-add-mod', div-div-eq-div-mul, mul-div-cancel}
+use native.Mathlib.Nat.{zero-add, zero-mul, one-mul, add-mul, mul-assoc, add-assoc, sub-zero, suc-add, suc-sub-suc, pow-succ', mod-eq-of-lt, one-le-pow, mul-le-mul-right, lt-of-lt-of-le, le-of-suc-le-suc, not-suc-le-zero, div-add-mod', div-div-eq-div-mul, div-lt-iff-lt-mul, le-div-iff-mul-le, mul-comm, mul-div-cancel}
 use native.Mathlib.Numerals.{add-one}
 use native.Mathlib.Omega.{arith}
 use borrow.Author.Tests.{leb-true, le-leb, lt-leb, lt-ltb, le-ltb, ltb-true}
@@ -196,6 +196,24 @@ pub width-more : (m n : ℕ) → 10 ≤ n → widthOf (suc m) n ≡ suc (widthOf
 unfolding widthOf
 width-more m n h = rw (le-ltb n 10 h)
 
+pub power-once : (b k : ℕ) → 1 ≤ k → b ^ k ≡ b * b ^ (k - 1)
+power-once b k h =
+    let s : k ≡ suc (k - 1) = omega arith in
+    ap (λ (j : ℕ). b ^ j) s ∙ pow-succ' b (k - 1)
+
+-- n against a power of ten, and what is above the place before it against ten
+module _ (n k : ℕ) (h : 1 ≤ k) where
+  pub few-tens : n < 10 ^ k → n / 10 ^ (k - 1) < 10
+  few-tens l = div-lt-iff-lt-mul (one-le-pow (k - 1) 10 (lit< tt)) .1 (rw (power-once 10 k h) at l)
+
+  pub more-tens : 10 ^ k ≤ n → 10 ≤ n / 10 ^ (k - 1)
+  more-tens l = le-div-iff-mul-le (one-le-pow (k - 1) 10 (lit< tt)) .1 (rw (power-once 10 k h) at l)
+
+  pub next-tens : n / 10 ^ (k - 1) / 10 ≡ n / 10 ^ (k + 1 - 1)
+  next-tens =
+      let s : k + 1 - 1 ≡ k = omega arith in
+      div-div-eq-div-mul n (10 ^ (k - 1)) 10 ∙ ap (λ (p : ℕ). n / p) (mul-comm (10 ^ (k - 1)) 10 ∙ sym (power-once 10 k h) ∙ ap (λ (j : ℕ). 10 ^ j) (sym s))
+
 pub width-last : (n : ℕ) → widthOf 1 n ≡ 1
 unfolding widthOf
 width-last n = go (ltb n 10)
@@ -222,12 +240,11 @@ last-digits : (j w n : ℕ) → drop j (digitsOf (j + w) n) ≡ digitsOf w n
 last-digits zero w n = rw zero-add
 last-digits (suc j) w n = rw suc-add (last-digits j w n)
 
-pub last-are : (n : ℕ) {k : ℕ} → k ≡ widthOf 20 n → k ≤ 20 → drop (21 - k) (0 ∷ digitsOf 20 n) ≡ decimalText n
+pub last-are : (n : ℕ) {k : ℕ} → k ≡ widthOf 20 n → k ≤ 20 → drop (21 - k) (digitsOf 21 n) ≡ decimalText n
 unfolding decimalText
 last-are n {k} e h =
-    let p : 21 - k ≡ suc (20 - k) = omega arith in
-    let q : 20 ≡ 20 - k + k = omega arith in
-    rw p (ap (λ (m : ℕ). drop (20 - k) (digitsOf m n)) q ∙ last-digits (20 - k) k n ∙ ap (λ (m : ℕ). digitsOf m n) e)
+    let q : 21 ≡ 21 - k + k = omega arith in
+    ap (λ (m : ℕ). drop (21 - k) (digitsOf m n)) q ∙ last-digits (21 - k) k n ∙ ap (λ (m : ℕ). digitsOf m n) e
 
 -- ---- the sign
 

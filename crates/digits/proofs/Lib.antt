@@ -3,3 +3,4 @@ pub mod Decimals
 pub mod Sorted
 pub mod Months
 pub mod Short
+mod Taking

@@ -13,10 +13,14 @@ use Rattle.digits.specs.declared.Number.the-variants.{Is, Bad}
 
 -- ---- out
 
+-- the digit of n at the place of a power of ten
+abbrev pub digitAt : ℕ → ℕ → ℕ
+digitAt n power = code "0" + n / power % 10
+
 -- n at a fixed width: the digits of the places 10 ^ (w - 1) down to 1
 abbrev pub digitsOf : ℕ → ℕ → List ℕ
 digitsOf zero n = []
-digitsOf (suc w) n = (code "0" + n / 10 ^ w % 10) ∷ digitsOf w n
+digitsOf (suc w) n = digitAt n (10 ^ w) ∷ digitsOf w n
 
 -- how many digits n has, of at most so many
 unfoldable pub widthOf : ℕ → ℕ → ℕ

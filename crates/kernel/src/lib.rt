@@ -153,7 +153,7 @@ fn append_pair(out: &mut [u8], at: usize, month: u32, offset: i32) -> usize
     let name = digits::month_name(month % 12 + 1);
     let a = digits::append_signed(out, at, offset as i64);
     let b = digits::append(out, a, b", @");
-    let c = digits::append(out, b, &year[2..]);
+    let c = digits::append(out, b, &year[5..]);
     let d = digits::append(out, c, b"-");
     let e = digits::append(out, d, &name);
     digits::append(out, e, b"-1")

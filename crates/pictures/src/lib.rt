@@ -4,6 +4,7 @@ ghost use mathlib.Core.List.{[], _++_};
 ghost use Prim.Native.Nat.{_+_, _-_, min, _≤_, _<_};
 ghost use lib.ListN.{length};
 ghost use Rattle.answer.specs.Buffers.{written, bufferAfter};
+ghost use Rattle.digits.specs.Bytes.{Placed};
 ghost use Rattle.digits.specs.Decimals.{numberAt};
 ghost use Rattle.pictures.specs.Pictures.{dateText, clockText, fractionText, pictureText};
 ghost use Rattle.pictures.specs.Parts.{Holds, Digits, Numbers, Fills};
@@ -35,124 +36,78 @@ pub enum FieldsAnswer {
 
 // ---- from fields to text
 
-// The text of a date: the first `len` of the bytes.
-struct DatePart {
-    bytes: [u8; 12],
-    len: usize,
-}
-
-// A whole text, likewise.
-struct Line {
-    bytes: [u8; 27],
-    len: usize,
-}
-
 // yyyy-mm-ddT
-fn numbered(year: u32, month: u32, day: u32) -> DatePart
-    ensures { λ r. ⌜ Holds (r .bytes) (r .len) 12 (dateText year (Date.Numbered month day)) ⌝ }
+fn put_numbered(line: &mut [u8], year: u32, month: u32, day: u32) -> usize
+    requires { ⌜ 12 ≤ length (now line) ⌝ }
+    ensures { λ r. ⌜ Placed (now (line .entry)) 0 (dateText year (Date.Numbered month day)) r (now (line .exit)) ⌝ }
 {
     let y = digits::digits(year);
     let m = digits::digits(month);
     let d = digits::digits(day);
-    let bytes = [
-        y[2],
-        y[3],
-        y[4],
-        y[5],
-        b'-',
-        m[4],
-        m[5],
-        b'-',
-        d[4],
-        d[5],
-        b'T',
-        0,
-    ];
-    DatePart { bytes, len: 11 }
+    let a = digits::append(line, 0, &y[5..]);
+    let b = digits::append(line, a, b"-");
+    let c = digits::append(line, b, &m[7..]);
+    let e = digits::append(line, c, b"-");
+    let f = digits::append(line, e, &d[7..]);
+    digits::append(line, f, b"T")
 }
 
 // yyyy-dddT
-fn of_year(year: u32, day: u32) -> DatePart
-    ensures { λ r. ⌜ Holds (r .bytes) (r .len) 12 (dateText year (Date.OfYear day)) ⌝ }
+fn put_of_year(line: &mut [u8], year: u32, day: u32) -> usize
+    requires { ⌜ 12 ≤ length (now line) ⌝ }
+    ensures { λ r. ⌜ Placed (now (line .entry)) 0 (dateText year (Date.OfYear day)) r (now (line .exit)) ⌝ }
 {
     let y = digits::digits(year);
     let d = digits::digits(day);
-    let bytes = [
-        y[2],
-        y[3],
-        y[4],
-        y[5],
-        b'-',
-        d[3],
-        d[4],
-        d[5],
-        b'T',
-        0,
-        0,
-        0,
-    ];
-    DatePart { bytes, len: 9 }
+    let a = digits::append(line, 0, &y[5..]);
+    let b = digits::append(line, a, b"-");
+    let c = digits::append(line, b, &d[6..]);
+    digits::append(line, c, b"T")
 }
 
 // yyyy MON dd and a blank
-fn named(year: u32, month: u32, day: u32) -> DatePart
-    ensures { λ r. ⌜ Holds (r .bytes) (r .len) 12 (dateText year (Date.Named month day)) ⌝ }
+fn put_named(line: &mut [u8], year: u32, month: u32, day: u32) -> usize
+    requires { ⌜ 12 ≤ length (now line) ⌝ }
+    ensures { λ r. ⌜ Placed (now (line .entry)) 0 (dateText year (Date.Named month day)) r (now (line .exit)) ⌝ }
 {
     let y = digits::digits(year);
     let d = digits::digits(day);
     let name = digits::month_name(month);
-    let bytes = [
-        y[2],
-        y[3],
-        y[4],
-        y[5],
-        b' ',
-        name[0],
-        name[1],
-        name[2],
-        b' ',
-        d[4],
-        d[5],
-        b' ',
-    ];
-    DatePart { bytes, len: 12 }
+    let a = digits::append(line, 0, &y[5..]);
+    let b = digits::append(line, a, b" ");
+    let c = digits::append(line, b, &name);
+    let e = digits::append(line, c, b" ");
+    let f = digits::append(line, e, &d[7..]);
+    digits::append(line, f, b" ")
 }
 
-fn date_shown(year: u32, date: Date) -> DatePart
-    ensures { λ r. ⌜ Holds (r .bytes) (r .len) 12 (dateText year date) ⌝ }
+fn put_date(line: &mut [u8], year: u32, date: Date) -> usize
+    requires { ⌜ 12 ≤ length (now line) ⌝ }
+    ensures { λ r. ⌜ Placed (now (line .entry)) 0 (dateText year date) r (now (line .exit)) ⌝ }
 {
     match date {
-        Date::Numbered(m, d) => numbered(year, m, d),
-        Date::OfYear(d) => of_year(year, d),
-        Date::Named(m, d) => named(year, m, d),
+        Date::Numbered(m, d) => put_numbered(line, year, m, d),
+        Date::OfYear(d) => put_of_year(line, year, d),
+        Date::Named(m, d) => put_named(line, year, m, d),
     }
 }
 
 // hh:mm:ss.uuuuuu
-fn clock(hour: u32, minute: u32, second: u32, micro: u32) -> [u8; 15]
-    ensures { λ r. ⌜ r ≡ clockText hour minute second ++ fractionText 6 micro ⌝ }
+fn put_clock(line: &mut [u8], at: usize, hour: u32, minute: u32, second: u32, micro: u32) -> usize
+    requires { ⌜ at + 15 ≤ length (now line) ⌝ }
+    ensures { λ r. ⌜ Placed (now (line .entry)) at (clockText hour minute second ++ fractionText 6 micro) r (now (line .exit)) ⌝ }
 {
     let h = digits::digits(hour);
+    let a = digits::append(line, at, &h[7..]);
+    let b = digits::append(line, a, b":");
     let m = digits::digits(minute);
+    let c = digits::append(line, b, &m[7..]);
+    let d = digits::append(line, c, b":");
     let s = digits::digits(second);
+    let e = digits::append(line, d, &s[7..]);
+    let f = digits::append(line, e, b".");
     let u = digits::digits(micro);
-    [
-        h[4],
-        h[5],
-        b':',
-        m[4],
-        m[5],
-        b':',
-        s[4],
-        s[5],
-        b'.',
-        u[0],
-        u[1],
-        u[2],
-        u[3],
-        u[4],
-        u[5],
-    ]
+    digits::append(line, f, &u[3..])
 }
 
 // How much of it is shown.
@@ -168,37 +123,24 @@ fn clock_length(digits: u32) -> usize
     15
 }
 
-// Two texts, the one behind the other.
-fn joined(a: &[u8], b: &[u8]) -> Line
-    requires { ⌜ length (now a) + length (now b) ≤ 27 ⌝ }
-    ensures { λ r. ⌜ Holds (r .bytes) (r .len) 27 (now (a .entry) ++ now (b .entry)) ⌝ }
-{
-    let mut bytes = [0u8; 27];
-    digits::append(&mut bytes, 0, a);
-    let len = digits::append(&mut bytes, a.len(), b);
-    Line { bytes, len }
-}
-
-fn shown(f: Fields) -> Line
-    ensures { λ r. ⌜ Holds (r .bytes) (r .len) 27 (pictureText f) ⌝ }
+// The clock goes in full behind the date; the length says how much of it is shown.
+fn put_shown(line: &mut [u8], f: Fields) -> usize
+    requires { ⌜ length (now line) ≡ 27 ⌝ }
+    ensures { λ r. ⌜ Holds (now (line .exit)) r 27 (pictureText f) ⌝ }
 {
     let date = f.date;
-    let part = date_shown(f.year, date);
-    let d = part.bytes;
-    let k = part.len;
-    let c = clock(f.hour, f.minute, f.second, f.micro);
-    let n = clock_length(f.digits);
-    joined(&d[..k], &c[..n])
+    let k = put_date(line, f.year, date);
+    put_clock(line, k, f.hour, f.minute, f.second, f.micro);
+    k + clock_length(f.digits)
 }
 
 // Writes the text of fields to the front of a lent buffer.
 pub fn write_fields(f: Fields, out: &mut [u8]) -> Written
     ensures { λ r. ⌜ (r ≡ written [] (pictureText f) (now (out .entry))) × (now (out .exit) ≡ bufferAfter [] (pictureText f) (now (out .entry))) ⌝ }
 {
-    let line = shown(f);
-    let t = line.bytes;
-    let n = line.len;
-    answer::write(&t[..n], out)
+    let mut line = [0u8; 27];
+    let n = put_shown(&mut line, f);
+    answer::write(&line[..n], out)
 }
 
 // ---- from text to fields

@@ -216,7 +216,7 @@ pub record SettledBytes : Type 0 where
   pub decimal : (word : Lent (List ℕ)) (most : ℕ) → Returns digits-decimal.Pre digits-decimal.Post (word & most & tt) (decimalOf most (now word))
   pub with-sign : (minus : Bool) (n : ℕ) → Returns digits-with-sign.Pre digits-with-sign.Post (minus & n & tt) (signed minus n)
   pub magnitude : (z : ℤ) → Returns digits-magnitude.Pre digits-magnitude.Post (z & tt) (natAbs z)
-  pub digits : (n : ℕ) → Returns digits-digits.Pre digits-digits.Post (n & tt) (digitsOf 6 n)
+  pub digits : (n : ℕ) → Returns digits-digits.Pre digits-digits.Post (n & tt) (digitsOf 9 n)
   pub month-name : (month : ℕ) → Returns digits-month-name.Pre digits-month-name.Post (month & tt) (monthName month)
   pub month-named : (a b c : ℕ) → Returns digits-month-named.Pre digits-month-named.Post (a & b & c & tt) (monthNamed (a ∷ b ∷ c ∷ []))
   pub write-fields : (f : Fields) (out : Lent (List ℕ)) →

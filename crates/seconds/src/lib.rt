@@ -27,10 +27,10 @@ fn put_sign(out: &mut [u8], at: usize, z: i64) -> usize
 fn put_micros(out: &mut [u8], at: usize, n: u64) -> usize
     ensures { λ r. ⌜ Puts (now (out .entry)) at (microsText n) r (now (out .exit)) ⌝ }
 {
-    let six = digits::digits((n % 1000000) as u32);
+    let nine = digits::digits((n % 1000000) as u32);
     let a = phrases::put_unsigned(out, at, n / 1000000);
     let b = phrases::put(out, a, b".");
-    phrases::put(out, b, &six)
+    phrases::put(out, b, &nine[3..])
 }
 
 // Puts microseconds as seconds with six digits.

@@ -30,9 +30,9 @@ fn put_date(out: &mut [u8], at: usize, m: u32) -> usize
 {
     let year = digits::digits(1972 + m / 12);
     let month = digits::digits(m % 12 + 1);
-    let a = phrases::put(out, at, &year[2..]);
+    let a = phrases::put(out, at, &year[5..]);
     let b = phrases::put(out, a, b"-");
-    let c = phrases::put(out, b, &month[4..]);
+    let c = phrases::put(out, b, &month[7..]);
     phrases::put(out, c, b"-01")
 }
 

@@ -41,14 +41,20 @@ returns-4 c =
     let a = l .before .before .before .args in
     turn-large (a .most) (l .loop .n) (l .loop .i) (a .word .now) (omega arith) (l .loop .inv .2) (holds (c .before .before .before .before .is-digit .ensures) (c .before .before .before .if2 .left)) (c .before .before .digit-value .ensures .0) (omega arith)
 
-loop-again : tie.Need-loop-again Inv-loop μ-loop
-loop-again c =
-    let l = c .before .before .before .before .before .before .before in
-    let a = l .before .before .before .args in
-    (omega arith, omega arith, turn-more (a .most) (l .loop .n) (l .loop .i) (a .word .now) (omega arith) (l .loop .inv .2) (holds (c .before .before .before .before .is-digit .ensures) (c .before .before .before .if2 .left)) (c .before .before .digit-value .ensures .0))
-
 returns-5 : tie.Need-returns-5 Inv-loop μ-loop
 returns-5 c =
+    let l = c .before .before .before .before .before .before .before .before in
+    let a = l .before .before .before .args in
+    turn-large (a .most) (l .loop .n) (l .loop .i) (a .word .now) (omega arith) (l .loop .inv .2) (holds (c .before .before .before .before .before .is-digit .ensures) (c .before .before .before .before .if2 .left)) (c .before .before .before .digit-value .ensures .0) (omega arith)
+
+loop-again : tie.Need-loop-again Inv-loop μ-loop
+loop-again c =
+    let l = c .before .before .before .before .before .before .before .before in
+    let a = l .before .before .before .args in
+    (omega arith, omega arith, turn-more (a .most) (l .loop .n) (l .loop .i) (a .word .now) (omega arith) (l .loop .inv .2) (holds (c .before .before .before .before .before .is-digit .ensures) (c .before .before .before .before .if2 .left)) (c .before .before .before .digit-value .ensures .0))
+
+returns-6 : tie.Need-returns-6 Inv-loop μ-loop
+returns-6 c =
     let l = c .before in
     let a = l .before .before .before .args in
     judged-end (a .most) (l .loop .n) (l .loop .i) (a .word .now) (omega arith) (l .loop .inv .1) ∙ l .loop .inv .2
@@ -68,11 +74,13 @@ decimal-spec =
     (λ c. search needs)
     returns-3
     (λ c. search needs)
-    (λ c. search needs)
     returns-4
+    (λ c. search needs)
+    (λ c. search needs)
+    returns-5
     (λ c. search needs)
     (λ c. search needs)
     (λ c. search needs)
     (λ c. search needs)
     loop-again
-    returns-5)
+    returns-6)

@@ -2,12 +2,11 @@
 -- Assumes nothing.
 use mathlib.Core.Path.{ap}
 use borrow.Author.Needs.{needs}
-use lib.ListN.{take, drop}
 use mir.Syntax.{w64}
 use mir.Facts.{toZ-ofZ, sfits-widen}
 use Rattle.laws.proofs.Machine.{widened}
 use Rattle.digits.specs.Decimals.{signedText}
-use Rattle.digits.proofs.Bytes.{same-text}
+use Rattle.digits.proofs.Bytes.{same-text, digits-from}
 use Rattle.kernel.proofs.Storing.{pair-placed}
 use Rattle.kernel.proofs.append_pair.Statement.{statement}
 use Rattle.kernel.proofs.append_pair.Tie as tie
@@ -29,7 +28,7 @@ returns c =
     pair-placed (a .out .now) (a .at) (a .month) (a .offset) (s .pre .0) (s .pre .1)
     (same-text (a .out .now) (a .at) (number .append-signed .result) (ap signedText (widened w64 tt (s .fits .offset))) (number .append-signed .ensures))
     (comma .append .ensures)
-    (same-text _ _ (year .append2 .result) (ap (λ x. take 4 (drop 2 x)) (m .before .digits .ensures)) (year .append2 .ensures))
+    (same-text _ _ (year .append2 .result) (digits-from 5 (m .before .digits .ensures)) (year .append2 .ensures))
     (dash .append3 .ensures)
     (same-text _ _ (name .append4 .result) (m .month-name .ensures) (name .append4 .ensures))
     (last .append5 .ensures)

@@ -1,10 +1,7 @@
 -- Four texts, one behind another.
 -- Assumes nothing.
 use borrow.Author.Needs.{needs}
-use mathlib.Core.Path.{ap}
-use mathlib.Core.List.{List}
-use Prim.Native.Nat.{ℕ}
-use lib.ListN.{take, drop}
+use Rattle.digits.proofs.Bytes.{digits-from}
 use Rattle.phrases.proofs.Puts.{puts-as, then}
 use Rattle.tablewords.specs.Words.{dateText}
 use Rattle.tablewords.proofs.put_date.Statement.{statement}
@@ -18,8 +15,8 @@ returns c =
     let dash = month .before .before .before .before .before .before in
     let year = dash .before .before .before .before .before in
     let texts = year .before .before .before .before in
-    then (puts-as (ap (λ (l : List ℕ). take 4 (drop 2 l)) (texts .before .digits .ensures)) (year .put .ensures)) (then (dash .put2 .ensures)
-    (then (puts-as (ap (λ (l : List ℕ). take 2 (drop 4 l)) (texts .digits2 .ensures)) (month .put3 .ensures)) (end .put4 .ensures)))
+    then (puts-as (digits-from 5 (texts .before .digits .ensures)) (year .put .ensures)) (then (dash .put2 .ensures)
+    (then (puts-as (digits-from 7 (texts .digits2 .ensures)) (month .put3 .ensures)) (end .put4 .ensures)))
 
 pub put-date-spec : {M : Type 1} → statement M
 put-date-spec =
