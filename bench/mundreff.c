@@ -5,11 +5,11 @@
 static mundreff_table table, read_table;
 static mundreff_stamp stamps[INPUTS], stamp;
 static mundreff_label labels[INPUTS], label, next;
-static size_t place, length, block_size;
+static size_t place, length, block_size, new_size;
 static int64_t instant;
 static char text[MUNDREFF_TEXT_ROOM];
 static const char comment[] = "* TAI-UTC of Bulletin C\n";
-static uint8_t bytes[MUNDREFF_CARDS_ROOM], block[MUNDREFF_BLOCK_ROOM], kernel[8192], cards[sizeof comment - 1 + MUNDREFF_CARDS_ROOM];
+static uint8_t bytes[MUNDREFF_CARDS_ROOM], block[MUNDREFF_BLOCK_ROOM], new_block[MUNDREFF_NEW_BLOCK_ROOM], kernel[8192], cards[sizeof comment - 1 + MUNDREFF_CARDS_ROOM];
 static size_t kernel_size, cards_size;
 static uint64_t kernel_place;
 static double midnight, fraction;
@@ -25,6 +25,10 @@ static uint32_t start(int i) { (void)i; return mundreff_start(&table, &label, &m
 static uint32_t tick(int i) { return mundreff_tick(&table, &labels[i], &next, &marks); }
 static uint32_t read_block(int i) { (void)i; return mundreff_read_block(block, block_size, &place, &read_table); }
 static uint32_t write_block(int i) { (void)i; return mundreff_write_block(&table, bytes, sizeof bytes, &length); }
+static uint32_t read_new_block(int i) { (void)i; return mundreff_read_new_block(new_block, new_size, &place, &read_table); }
+static uint32_t write_new_block(int i) { (void)i; return mundreff_write_new_block(&table, bytes, sizeof bytes, &length); }
+static uint32_t renew(int i) { (void)i; return mundreff_renew(block, block_size, 0, bytes, sizeof bytes, &place, &length); }
+static uint32_t revert(int i) { (void)i; return mundreff_revert(new_block, new_size, bytes, sizeof bytes, &place, &length); }
 static uint32_t read_kernel(int i) { (void)i; return mundreff_read_kernel(kernel, kernel_size, &kernel_place, &read_table); }
 static uint32_t write_kernel(int i) { (void)i; return mundreff_write_kernel(&table, bytes, sizeof bytes, &length); }
 static uint32_t read_cards(int i) { (void)i; return mundreff_read_cards(cards, cards_size, &place, &read_table); }
@@ -44,6 +48,7 @@ static int next_right(int i)
 }
 static int table_right(int i) { (void)i; return !memcmp(&read_table, &table, sizeof table); }
 static int block_right(int i) { (void)i; return length == 29 && !memcmp(bytes, block, 29); }
+static int new_block_right(int i) { (void)i; return length == 31 && !memcmp(bytes, new_block, 31); }
 
 /* the kernel written has the length of Bulletin C's and reads as the table; so do the cards */
 static int kernel_right(int i) { return length == 1032 && !mundreff_read_kernel(bytes, length, &kernel_place, &read_table) && table_right(i); }
@@ -72,6 +77,10 @@ ROW("table check (starting the clock)", start, start_right)
 ROW("tick", tick, next_right)
 ROW("block to table", read_block, table_right)
 ROW("table to block", write_block, block_right)
+ROW("new block to table", read_new_block, table_right)
+ROW("table to new block", write_new_block, new_block_right)
+ROW("old block to new", renew, new_block_right)
+ROW("new block to old", revert, block_right)
 BYTES_ROW("kernel to table", read_kernel, table_right, kernel_size)
 BYTES_ROW("table to kernel", write_kernel, kernel_right, length)
 BYTES_ROW("cards to table", read_cards, table_right, cards_size)
@@ -98,7 +107,7 @@ int main(void)
         stamps[i] = (mundreff_stamp){MUNDREFF_UTC, f[0], f[1], f[2], f[3], f[4], f[5], f[6]};
     }
     mundreff_bulletin_c(&table);
-    if (mundreff_write_block(&table, block, sizeof block, &block_size) || make_cards())
+    if (mundreff_write_block(&table, block, sizeof block, &block_size) || mundreff_write_new_block(&table, new_block, sizeof new_block, &new_size) || make_cards())
         return 1;
     FILE *file = fopen("examples/leapseconds.tls", "rb");
     if (!file)
@@ -114,6 +123,10 @@ int main(void)
     row_tick();
     row_read_block();
     row_write_block();
+    row_read_new_block();
+    row_write_new_block();
+    row_renew();
+    row_revert();
     row_read_kernel();
     row_write_kernel();
     row_read_cards();

@@ -1,7 +1,7 @@
-/* Each call of the header, once with an answer and once refused (mundreff_bulletin_c is never refused); texts with a final zero, and in order;
-   Julian dates of UTC days of each length, a tick in place, buffers of no bytes, the month that a table is vouched for with the marks of each
-   call, the lengths that are always enough and the names of the refusals. It is C and C++. It says where an answer is another than the
-   header's, and ends with status 1. */
+/* Each call of the header, once with an answer and once refused (mundreff_bulletin_c is never refused); blocks moved there and back; texts with
+   a final zero, and in order; Julian dates of UTC days of each length, a tick in place, buffers of no bytes, the month that a table is vouched
+   for with the marks of each call, the lengths that are always enough and the names of the refusals. It is C and C++. It says where an answer
+   is another than the header's, and ends with status 1. */
 #include <stdio.h>
 #include <string.h>
 #include "mundreff.h"
@@ -54,6 +54,103 @@ static void tables(void)
     USED(read);
     expect("read_block", mundreff_read_block(block, 29, &place, &read) == MUNDREFF_OK && place == 0 && SAME(read, table));
     expect("read_block refused", mundreff_read_block(block, 28, &place, &read) == MUNDREFF_CUT && place == 28 && SAME(read, no_table));
+}
+
+/* 10 s from January, 11 s from July 1972 and 12 s from January 1973 on, which is also the month of the new block */
+static const uint8_t old_block[] = {0x03, 0x0c, 0x0c}, new_block[] = {0x00, 0x0d, 0x03, 0x0c, 0x0c};
+enum { JANUARY_1973 = MUNDREFF_VOUCHED(1973, 1) };
+
+static void new_blocks(void)
+{
+    uint8_t block[64], before[64];
+    size_t length = 9, place = 9;
+    mundreff_table read;
+    USED(read);
+    expect("read_new_block", mundreff_read_new_block(new_block, sizeof new_block, &place, &read) == MUNDREFF_OK && place == 0 && read.count == 3 && read.months[2] == 12 && read.offsets[2] == 12 && read.months[3] == 0 && read.offsets[63] == 0 && read.vouched == JANUARY_1973);
+    USED(block);
+    USED(before);
+    expect("write_new_block refused", mundreff_write_new_block(&read, block, sizeof new_block - 1, &length) == MUNDREFF_ROOM && length == 0 && SAME(block, before));
+    expect("write_new_block", mundreff_write_new_block(&read, block, sizeof block, &length) == MUNDREFF_OK && length == sizeof new_block && memcmp(block, new_block, length) == 0 && memcmp(block + length, before, sizeof block - length) == 0);
+    read.vouched = 0;
+    expect("without a month", mundreff_write_new_block(&read, block, sizeof block, &length) == MUNDREFF_OK && length == sizeof new_block && block[0] == 0 && block[1] == 0 && memcmp(block + 2, old_block, sizeof old_block) == 0);
+    expect("read_block of a new one", mundreff_read_block(new_block, sizeof new_block, &place, &read) == MUNDREFF_TABLE && place == 0 && SAME(read, no_table));
+}
+
+/* What is no new block: the first number is missing, too long or another; the month is missing, not in its shortest form, past 96,335 or
+   before the last entry, where a byte too many comes first; the old block is missing, or cut. A move says what reading says. */
+static const struct {
+    uint8_t bytes[6];
+    size_t size;
+    uint32_t no;
+    size_t place;
+} bad_blocks[] = {
+    {{0}, 0, MUNDREFF_CUT, 0},
+    {{0x80, 0x00}, 2, MUNDREFF_GROUPS, 0},
+    {{0x03, 0x0c, 0x0c}, 3, MUNDREFF_TABLE, 0},
+    {{0x00}, 1, MUNDREFF_CUT, 1},
+    {{0x00, 0x8d, 0x00, 0x03, 0x0c, 0x0c}, 6, MUNDREFF_GROUPS, 1},
+    {{0x00, 0xf1, 0xf0, 0x05, 0x01}, 5, MUNDREFF_TABLE, 1},
+    {{0x00, 0x0c, 0x03, 0x0c, 0x0c}, 5, MUNDREFF_TABLE, 1},
+    {{0x00, 0x0c, 0x03, 0x0c, 0x0c, 0x00}, 6, MUNDREFF_TAIL, 5},
+    {{0x00, 0x00}, 2, MUNDREFF_CUT, 2},
+    {{0x00, 0x0d, 0x03, 0x0c}, 4, MUNDREFF_CUT, 4},
+};
+
+static void bad_new_blocks(void)
+{
+    uint8_t moved[64], before[64];
+    USED(moved);
+    USED(before);
+    for (size_t k = 0; k < sizeof bad_blocks / sizeof *bad_blocks; k++) {
+        size_t length = 9, place = 9;
+        mundreff_table read;
+        USED(read);
+        uint32_t no = mundreff_read_new_block(bad_blocks[k].bytes, bad_blocks[k].size, &place, &read);
+        expect("read_new_block refused", no == bad_blocks[k].no && place == bad_blocks[k].place && SAME(read, no_table));
+        place = 9;
+        no = mundreff_revert(bad_blocks[k].bytes, bad_blocks[k].size, moved, sizeof moved, &place, &length);
+        expect("and revert of it", no == bad_blocks[k].no && place == bad_blocks[k].place && length == 0 && SAME(moved, before));
+    }
+}
+
+static void moves(void)
+{
+    uint8_t moved[64], before[64];
+    size_t length = 9, place = 9;
+    USED(moved);
+    USED(before);
+    expect("renew refused", mundreff_renew(old_block, sizeof old_block, JANUARY_1973, moved, sizeof new_block - 1, &place, &length) == MUNDREFF_ROOM && place == 0 && length == 0 && SAME(moved, before));
+    place = length = 9;
+    expect("a month that the block cannot carry", mundreff_renew(old_block, sizeof old_block, JANUARY_1973 - 1, NULL, 0, &place, &length) == MUNDREFF_TABLE && place == 0 && length == 0);
+    place = length = 9;
+    expect("a month past the end", mundreff_renew(old_block, sizeof old_block, 96337, moved, sizeof moved, &place, &length) == MUNDREFF_TABLE && place == 0 && length == 0 && SAME(moved, before));
+    length = 9;
+    expect("the block's fault comes before it", mundreff_renew(old_block, 2, 96337, moved, sizeof moved, &place, &length) == MUNDREFF_CUT && place == 2 && length == 0 && SAME(moved, before));
+    expect("renew of a new block", mundreff_renew(new_block, sizeof new_block, 0, moved, sizeof moved, &place, &length) == MUNDREFF_TABLE && place == 0 && length == 0 && SAME(moved, before));
+    place = 9;
+    expect("renew", mundreff_renew(old_block, sizeof old_block, JANUARY_1973, moved, sizeof moved, &place, &length) == MUNDREFF_OK && place == 0 && length == sizeof new_block && memcmp(moved, new_block, length) == 0 && memcmp(moved + length, before, sizeof moved - length) == 0);
+    USED(moved);
+    place = length = 9;
+    expect("revert refused", mundreff_revert(new_block, sizeof new_block, moved, sizeof old_block - 1, &place, &length) == MUNDREFF_ROOM && place == 0 && length == 0 && SAME(moved, before));
+    place = 9;
+    expect("revert", mundreff_revert(new_block, sizeof new_block, moved, sizeof moved, &place, &length) == MUNDREFF_OK && place == 0 && length == sizeof old_block && memcmp(moved, old_block, length) == 0 && memcmp(moved + length, before, sizeof moved - length) == 0);
+}
+
+/* Bulletin C's block with no month, January 2017 and December 9999, whose number has one, two and three bytes; and back to the same bytes */
+static void there_and_back(void)
+{
+    const uint32_t months[] = {0, MUNDREFF_VOUCHED(2017, 1), MUNDREFF_VOUCHED(9999, 12)};
+    const uint8_t openings[][4] = {{0x00, 0x00}, {0x00, 0x9d, 0x04}, {0x00, 0xd0, 0xf0, 0x05}};
+    uint8_t block[MUNDREFF_BLOCK_ROOM], moved[MUNDREFF_NEW_BLOCK_ROOM], back[MUNDREFF_BLOCK_ROOM];
+    size_t size = 9, length = 9, place = 9;
+    expect("Bulletin C's block", mundreff_write_block(&table, block, sizeof block, &size) == MUNDREFF_OK && size == 29);
+    for (size_t k = 0; k < 3; k++) {
+        const size_t opening = 2 + k;
+        mundreff_table read;
+        expect("moved there", mundreff_renew(block, size, months[k], moved, sizeof moved, &place, &length) == MUNDREFF_OK && length == opening + size && memcmp(moved, openings[k], opening) == 0 && memcmp(moved + opening, block, size) == 0);
+        expect("with its month", mundreff_read_new_block(moved, length, &place, &read) == MUNDREFF_OK && read.count == 28 && read.vouched == months[k]);
+        expect("and back", mundreff_revert(moved, length, back, sizeof back, &place, &length) == MUNDREFF_OK && length == size && memcmp(back, block, size) == 0);
+    }
 }
 
 static const char small_kernel[] = "\\begindata\nDELTET/DELTA_AT = ( 10, @1972-JAN-1\n                    11, @1972-JUL-1 )\n\\begintext\n";
@@ -409,6 +506,7 @@ static int others_refuse(const mundreff_table *t)
     int all = mundreff_start(t, &label, marked()) == MUNDREFF_TABLE && SAME(label, no_label) && marks == 0;
     all &= mundreff_tick(t, &eve, &label, marked()) == MUNDREFF_TABLE && SAME(label, no_label) && marks == 0;
     all &= mundreff_write_block(t, out, sizeof out, &length) == MUNDREFF_TABLE && length == 0 && SAME(out, before);
+    all &= mundreff_write_new_block(t, out, sizeof out, &length) == MUNDREFF_TABLE && length == 0 && SAME(out, before);
     all &= mundreff_write_kernel(t, out, sizeof out, &length) == MUNDREFF_TABLE && length == 0 && SAME(out, before);
     all &= mundreff_write_cards(t, out, sizeof out, &length) == MUNDREFF_TABLE && length == 0 && SAME(out, before);
     return all;
@@ -459,7 +557,7 @@ static void marks_given(void)
     expect("tick refused beyond", mundreff_tick(&given, &end, &next, marked()) == MUNDREFF_RANGE && SAME(next, no_label) && marks == 0);
 }
 
-/* the writers of tables drop the month */
+/* the writers of tables drop the month, but that of new blocks */
 static void months_dropped(void)
 {
     uint8_t with[MUNDREFF_CARDS_ROOM], without[MUNDREFF_CARDS_ROOM];
@@ -469,9 +567,10 @@ static void months_dropped(void)
     given.vouched = JANUARY_2017;
     USED(with);
     USED(without);
-    expect("a block has no month", mundreff_write_block(&given, with, sizeof with, &length) == MUNDREFF_OK && mundreff_write_block(&table, without, sizeof without, &same) == MUNDREFF_OK && length == same && SAME(with, without));
+    expect("an old block has no month", mundreff_write_block(&given, with, sizeof with, &length) == MUNDREFF_OK && mundreff_write_block(&table, without, sizeof without, &same) == MUNDREFF_OK && length == same && SAME(with, without));
     USED(read);
     expect("nor the table read from it", mundreff_read_block(with, length, &place, &read) == MUNDREFF_OK && SAME(read, table) && read.vouched == 0);
+    expect("a new block has it", mundreff_write_new_block(&given, with, sizeof with, &length) == MUNDREFF_OK && mundreff_read_new_block(with, length, &place, &read) == MUNDREFF_OK && SAME(read, given));
     expect("a kernel has no month", mundreff_write_kernel(&given, with, sizeof with, &length) == MUNDREFF_OK && mundreff_write_kernel(&table, without, sizeof without, &same) == MUNDREFF_OK && length == same && SAME(with, without));
     USED(read);
     expect("nor has its table", mundreff_read_kernel(with, length, &at, &read) == MUNDREFF_OK && SAME(read, table) && read.vouched == 0);
@@ -493,17 +592,23 @@ static void no_bytes(void)
     expect("no room for cards", mundreff_write_cards(&table, NULL, 0, &length) == MUNDREFF_ROOM && length == 0);
     expect("no block", mundreff_read_block(NULL, 0, &place, &read) == MUNDREFF_CUT && place == 0 && SAME(read, no_table));
     expect("no room for a block", mundreff_write_block(&table, NULL, 0, &length) == MUNDREFF_ROOM && length == 0);
+    expect("no new block", mundreff_read_new_block(NULL, 0, &place, &read) == MUNDREFF_CUT && place == 0 && SAME(read, no_table));
+    expect("no room for a new block", mundreff_write_new_block(&table, NULL, 0, &length) == MUNDREFF_ROOM && length == 0);
+    expect("no block to renew", mundreff_renew(NULL, 0, 0, NULL, 0, &place, &length) == MUNDREFF_CUT && place == 0 && length == 0);
+    expect("no room for a renewed one", mundreff_renew(old_block, sizeof old_block, 0, NULL, 0, &place, &length) == MUNDREFF_ROOM && place == 0 && length == 0);
+    expect("no block to revert", mundreff_revert(NULL, 0, NULL, 0, &place, &length) == MUNDREFF_CUT && place == 0 && length == 0);
+    expect("no room for a reverted one", mundreff_revert(new_block, sizeof new_block, NULL, 0, &place, &length) == MUNDREFF_ROOM && place == 0 && length == 0);
     expect("no text", mundreff_read_text(&table, MUNDREFF_UTC, NULL, 0, &instant, &stamp, marked()) == MUNDREFF_SHAPE && instant == 0 && SAME(stamp, no_stamp) && marks == 0);
     expect("no room for a text", mundreff_write_text(&table, added, MUNDREFF_MONTH_NUMBER, MUNDREFF_UTC, 6, NULL, 0, &length, marked()) == MUNDREFF_ROOM && length == 0 && marks == 0);
     expect("no room for a string", mundreff_write_string(&table, added, MUNDREFF_MONTH_NUMBER, MUNDREFF_UTC, 6, NULL, 0, &length, marked()) == MUNDREFF_ROOM && length == 0 && marks == 0);
 }
 
-/* 52 gaps of 64 months, whose numbers take two bytes, and 11 of 8,192, whose numbers take three: the longest block there is. Offsets that go
-   down, to -53, make the longest kernel; 64 entries before 2050 are the most cards. */
+/* 52 gaps of 64 months, whose numbers take two bytes, and 11 of 8,192, whose numbers take three: the longest block there is, and with a month
+   in three bytes the longest new one. Offsets that go down, to -53, make the longest kernel; 64 entries before 2050 are the most cards. */
 static void lengths(void)
 {
     mundreff_table longest;
-    uint8_t block[MUNDREFF_BLOCK_ROOM], kernel[MUNDREFF_KERNEL_ROOM], cards[MUNDREFF_CARDS_ROOM];
+    uint8_t block[MUNDREFF_BLOCK_ROOM], with_month[MUNDREFF_NEW_BLOCK_ROOM], kernel[MUNDREFF_KERNEL_ROOM], cards[MUNDREFF_CARDS_ROOM];
     char text[MUNDREFF_TEXT_ROOM], string[MUNDREFF_STRING_ROOM];
     size_t length = 9;
     memset(&longest, 0, sizeof longest);
@@ -515,6 +620,9 @@ static void lengths(void)
     }
     expect("the longest block", mundreff_write_block(&longest, block, sizeof block, &length) == MUNDREFF_OK && length == MUNDREFF_BLOCK_ROOM);
     expect("it is no shorter", mundreff_write_block(&longest, block, sizeof block - 1, &length) == MUNDREFF_ROOM);
+    longest.vouched = MUNDREFF_VOUCHED(9999, 12);
+    expect("the longest new block", mundreff_write_new_block(&longest, with_month, sizeof with_month, &length) == MUNDREFF_OK && length == MUNDREFF_NEW_BLOCK_ROOM);
+    expect("nor is this one", mundreff_write_new_block(&longest, with_month, sizeof with_month - 1, &length) == MUNDREFF_ROOM);
     for (int k = 1; k < 64; k++)
         longest.offsets[k] = 10 - k;
     expect("the longest kernel", mundreff_write_kernel(&longest, kernel, sizeof kernel, &length) == MUNDREFF_OK && length == MUNDREFF_KERNEL_ROOM);
@@ -540,6 +648,10 @@ int main(void)
 {
     expect("sizes", sizeof(mundreff_table) == 520 && offsetof(mundreff_table, vouched) == 516 && sizeof(mundreff_stamp) == 32 && sizeof(mundreff_label) == 24);
     tables();
+    new_blocks();
+    bad_new_blocks();
+    moves();
+    there_and_back();
     kernels();
     bad_kernels();
     cards();

@@ -6,14 +6,15 @@
    may be shared while nobody writes to it.
 
    Every call returns the number of the refusal, MUNDREFF_OK (0) on success, and writes every output on every call: on a refusal they are
-   all zero (a reader of tables also gives the place). A lent byte buffer is written on success only, and past the reported length never, but
-   for the final zero of mundreff_write_string.
+   all zero (a reader of tables and a move of a block also give the place). A lent byte buffer is written on success only, and past the
+   reported length never, but for the final zero of mundreff_write_string.
    Where several things are wrong, the first in the call's list decides. A dropped number is warned of, see MUNDREFF_CHECKED.
 
    Pointers. A buffer of no bytes may be NULL (with size or room 0); every other pointer must be valid, and none is tested. An output, marks
    too, lies apart from the other outputs, from the table and from every input, whole or in part, with one exception: the two labels of
-   mundreff_tick may be one. So a block, a kernel or cards that lie in a mundreff_table are not read into that table, and a table's own bytes are
-   not written over while it is read. Inputs may overlap. What overlaps otherwise is not answered for. */
+   mundreff_tick may be one. So a block, a kernel or cards that lie in a mundreff_table are not read into that table, a table's own bytes are
+   not written over while it is read, and a block is not moved within its own buffer. Inputs may overlap. What overlaps otherwise is not
+   answered for. */
 #ifndef MUNDREFF_H
 #define MUNDREFF_H
 
@@ -22,7 +23,7 @@
 #include <string.h>
 
 /* tools/build-shared and tools/install take it from here. */
-#define MUNDREFF_VERSION "0.4"
+#define MUNDREFF_VERSION "0.5"
 
 /* Before each call that can be refused: the compiler warns where its number is not looked at. */
 #if (defined(__cplusplus) && __cplusplus >= 201703L) || (defined(__STDC_VERSION__) && __STDC_VERSION__ >= 202311L)
@@ -50,7 +51,7 @@ enum {
     MUNDREFF_ASK = 8,      /* unknown scale, picture or digit number */
     MUNDREFF_CUT = 9,      /* the block ends before a number of it does */
     MUNDREFF_GROUPS = 10,  /* a number of the block is too long, or not in its shortest form */
-    MUNDREFF_TABLE = 11,   /* the table, given or read, is not as described (its vouched month too), or the block's count, gap or month is out of range */
+    MUNDREFF_TABLE = 11,   /* the table, given or read, is not as described (its vouched month too), or the block's first number, count, gap or month is out of range */
     MUNDREFF_TAIL = 12,    /* a byte after the block's last entry */
     MUNDREFF_NUMBER = 13,  /* the midnight is not a whole number and a half, or the fraction is not at least 0 and below 1 */
     MUNDREFF_KERNEL = 14,  /* the file is no leap-seconds kernel, or is longer than 65,536 bytes */
@@ -70,17 +71,24 @@ enum {
 };
 
 /* Bytes that are always enough: the longest text has 27, in picture 2 with six digits, and 28 with its final zero as a string, the longest
-   block of a table 138, the longest kernel 2,362 and the most cards, 64 of 81 bytes, 5,184. Add one to a kernel's or to that of cards for a
-   final zero of your own. */
-enum { MUNDREFF_TEXT_ROOM = 27, MUNDREFF_STRING_ROOM = 28, MUNDREFF_BLOCK_ROOM = 138, MUNDREFF_KERNEL_ROOM = 2362, MUNDREFF_CARDS_ROOM = 5184 };
+   old block of a table 138, the longest new one, with its month in three bytes, 142, the longest kernel 2,362 and the most cards, 64 of 81
+   bytes, 5,184. Add one to a kernel's or to that of cards for a final zero of your own. */
+enum {
+    MUNDREFF_TEXT_ROOM = 27,
+    MUNDREFF_STRING_ROOM = 28,
+    MUNDREFF_BLOCK_ROOM = 138,
+    MUNDREFF_NEW_BLOCK_ROOM = 142,
+    MUNDREFF_KERNEL_ROOM = 2362,
+    MUNDREFF_CARDS_ROOM = 5184
+};
 
 /* 1 to 64 entries, each the month (January 1972 is 0) from whose first day TAI-UTC is that offset in seconds. The first is month 0 with 10,
    months rise and end at 96,335 (December 9999) at the latest, offsets go up or down by 1, unused places are zero. Every call checks it.
    The last offset holds to the end of 9999, announced or not. A month's number is 12 * (year - 1972) + month - 1.
    `vouched` says how long the table is good for: the last month that it is vouched for, plus one, or 0 where none is given. Which month, is for
    whoever hands out the table to say; MUNDREFF_VOUCHED, below, makes the number. A month that is given lies from the last entry's to 96,335, else
-   TABLE. Tables read from blocks, kernels and cards and Bulletin C's own have none given and mark nothing: set `table.vouched` yourself, each
-   time that you load one.
+   TABLE. A table read from a new block has the month of that block. Those read from old blocks, kernels and cards and Bulletin C's own have none
+   given and mark nothing: set `table.vouched` yourself, each time that you load one.
    Older programs: the eight calls with `marks` need that one argument more, and what fills in a table field by field sets `vouched` as well, to 0
    for none. Rebuild every file: an object file compiled with the older header still links, and then writes outside its table and through a
    stray pointer. */
@@ -133,17 +141,42 @@ typedef struct {
    Never refused. */
 uint32_t mundreff_bulletin_c(mundreff_table *table);
 
-/* Reads a stored block into a table. A block is the count of entries, then for each entry after the first twice the months since the entry
-   before it, plus 1 where the offset goes down. Each number is in groups of seven bits, lowest group first, a group to a byte, the top bit
-   set where more follow: at most three bytes, the shortest form. 03 0C 0C: three entries, two steps of six months, each up.
+/* Reads an old block into a table. It is the count of entries, then for each entry after the first twice the months since the entry before
+   it, plus 1 where the offset goes down. Each number is in groups of seven bits, lowest group first, a group to a byte, the top bit set where
+   more follow: at most three bytes, the shortest form. 03 0C 0C: three entries, two steps of six months, each up.
    On a refusal `place` is that of the first byte of the number at fault, for TAIL of the first byte too many; where a number is missing
    altogether it is `size`, so do not read block[place] unchecked. On success it is 0.
    Refusals: CUT, GROUPS, TABLE and TAIL, whichever comes first from the left. */
 MUNDREFF_CHECKED uint32_t mundreff_read_block(const uint8_t *block, size_t size, size_t *place, mundreff_table *table);
 
-/* Writes a table as a block, and gives its length. A vouched month is judged and not written: what reads back has none given.
+/* Writes a table as an old block, and gives its length. A vouched month is judged and not written: what reads back has none given.
    Refusals: TABLE, ROOM. */
 MUNDREFF_CHECKED uint32_t mundreff_write_block(const mundreff_table *table, uint8_t *out, size_t room, size_t *length);
+
+/* Reads a new block, which says how long it holds, into a table. It is the number 0, then `vouched` as a table has it, the month plus one or 0
+   for none given, then the old block; numbers have the form above. 00 0D 03 0C 0C: the old block above, vouched for up to January 1973.
+   A program that reads old blocks only answers a new one with TABLE at 0, and so does this call an old one.
+   `place` is as above, counted from the new block's first byte. TABLE is at 0 for another first number, and at 1 for both faults of the month.
+   Refusals: CUT, GROUPS, TABLE (also for a month number above 96,336) and TAIL, whichever comes first from the left; then TABLE for a month
+   before the last entry's. */
+MUNDREFF_CHECKED uint32_t mundreff_read_new_block(const uint8_t *block, size_t size, size_t *place, mundreff_table *table);
+
+/* Writes a table as a new block, with its vouched month, and gives its length.
+   Refusals: TABLE, ROOM. */
+MUNDREFF_CHECKED uint32_t mundreff_write_new_block(const mundreff_table *table, uint8_t *out, size_t room, size_t *length);
+
+/* Moves an old block into a new one with this `vouched`, a number of MUNDREFF_VOUCHED or 0 for none given, and gives its length. What the new
+   block has behind its month are the bytes of the old one, so moved back it is the same again.
+   On a refusal `place` is that of the block's fault. It is 0 for a month that its table cannot carry, one before the last entry's or past
+   96,335, and for ROOM; with TABLE at 0, then, the fault is the block's count (0 where it is a new block) or the month.
+   Refusals: as for mundreff_read_block; then TABLE for the month; then ROOM. */
+MUNDREFF_CHECKED uint32_t mundreff_renew(const uint8_t *block, size_t size, uint32_t vouched, uint8_t *out, size_t room, size_t *place, size_t *length);
+
+/* Moves a new block into an old one, for those who read old ones only, and gives its length. A month that is given is lost, and nothing else:
+   keep the new block, or its month, where you need it.
+   On a refusal `place` is that of the block's fault, and 0 for ROOM.
+   Refusals: as for mundreff_read_new_block; then ROOM. */
+MUNDREFF_CHECKED uint32_t mundreff_revert(const uint8_t *block, size_t size, uint8_t *out, size_t room, size_t *place, size_t *length);
 
 /* Reads a leap-seconds text kernel into a table. Text, which may be anything, goes up to a line that has only `\begindata`; data follow, up to
    a line that has only `\begintext` or to the end, and so on. Data are assignments, NAME = ITEM or NAME = ( ITEM, ITEM .. ), also with +=; an
@@ -158,7 +191,7 @@ MUNDREFF_CHECKED uint32_t mundreff_write_block(const mundreff_table *table, uint
 MUNDREFF_CHECKED uint32_t mundreff_read_kernel(const uint8_t *file, size_t size, uint64_t *place, mundreff_table *table);
 
 /* Writes a table as a kernel, from `\begindata` to `\begintext`, a pair to a line, with no final zero, and gives its length. A vouched
-   month is judged and not written, as above.
+   month is judged and not written, as in an old block.
    Refusals: TABLE, ROOM. */
 MUNDREFF_CHECKED uint32_t mundreff_write_kernel(const mundreff_table *table, uint8_t *out, size_t room, size_t *length);
 
@@ -180,7 +213,8 @@ MUNDREFF_CHECKED uint32_t mundreff_write_kernel(const mundreff_table *table, uin
 MUNDREFF_CHECKED uint32_t mundreff_read_cards(const uint8_t *file, size_t size, size_t *place, mundreff_table *table);
 
 /* Writes a table as cards, oldest first, 81 bytes each with its line feed, with no final zero, and gives their length: Bulletin C has 28 cards
-   and 2,268 bytes. A card cannot say a year after 2049: an entry there is RANGE. A vouched month is judged and not written, as above.
+   and 2,268 bytes. A card cannot say a year after 2049: an entry there is RANGE. A vouched month is judged and not written, as in
+   an old block.
    Refusals: TABLE, RANGE, ROOM. */
 MUNDREFF_CHECKED uint32_t mundreff_write_cards(const mundreff_table *table, uint8_t *out, size_t room, size_t *length);
 

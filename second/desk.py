@@ -301,7 +301,7 @@ def table_read(given, read, part):
 def table_of_block(_, rest):
     if not second.HEX.fullmatch(rest):
         raise NotLoaded(ASK, rest, NO_HEX)
-    return table_read(rest, second.read_block, bytes.fromhex(rest.decode()))
+    return table_read(rest, second.read_either_block, bytes.fromhex(rest.decode()))
 
 
 def front_of_file(name, number):

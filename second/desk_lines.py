@@ -14,7 +14,7 @@ import desk
 import second
 from generate import (BEGIN_DATA, BULLETIN, COMMENTS, DECIMALS, FIRST_CARD, N, OURS, PICTURES, SECOND_CARD, SOURCE_CARDS, T, THIRD_CARD,
                       WRONG_DECIMALS, Dice, card_of, cards_file, damaged_once, edges_of, published_kernel, random_block, random_instant,
-                      random_table, random_text, random_vouched_number)
+                      random_new_block, random_table, random_text, random_vouched_number)
 from second import GPS, LAST_MONTH, SECOND, TAI, TDT, UTC, Refused
 
 CLOCKS = [name.decode() for name in desk.CLOCKS]
@@ -28,6 +28,11 @@ TWO_DOWN = second.read_block(bytes.fromhex('030d0d'))
 
 def block_line(table):
     return 'table block ' + second.block_of_table(table).hex()
+
+
+def new_block_line(table):
+    """It sets the month too."""
+    return 'table block ' + second.new_block_of_table(table).hex()
 
 
 def month_text(month):
@@ -252,7 +257,8 @@ def random_name(dice):
     return dice.pick(NO_NAMES) if dice.chance(0.06) else dice.pick(NAMES)
 
 
-NO_HEX = ('0', '010', 'zz', '0g', '0x01', '01 ', ' 01', '01 02', '01\r', '-', '030C0C1', '\xb9\xb2', '030C,0C', 'block')
+NO_HEX = ('0', '010', 'zz', '0g', '0x01', '01 ', ' 01', '01 02', '01\r', '-', '030C0C1', '\xb9\xb2', '030C,0C', 'block', '000d030c0',
+          '00 0d030c0c')
 NO_MONTHS = ('', '2026', '2026-', '2026-00', '2026-13', '2026-1', '2026-1 ', '2026-012', '2026/12', '202612', '1971-12', '0000-01',
              '10000-01', '2026-12-01', '2026-12 ', ' 2026-12', '2026-12\r', '2O26-12', '-026-12', '+2026-12', '2026-1\xb2',
              'December 2026', '9999-13')
@@ -344,14 +350,21 @@ class Lines:
         return 'table'
 
     def line_block(self):
-        kind = self.dice.weighted(((4, 'table'), (4, 'any'), (1, 'one step'), (1, 'no hex'), (1, 'bulletin')))
+        kind = self.dice.weighted(((3, 'any'), (3, 'any new'), (1, 'no hex'), (7, 'table')))
         if kind == 'no hex':
             return 'table block ' + self.dice.pick(NO_HEX)
-        if kind == 'any':
-            line = 'table block ' + random_block(self.dice, self.table).hex()
+        if kind == 'table':
+            line = self.line_block_of_table()
         else:
-            line = block_line({'one step': self.dice.pick((T, N, TWO_DOWN)), 'bulletin': BULLETIN}.get(kind) or random_table(self.dice))
+            line = 'table block ' + (random_block if kind == 'any' else random_new_block)(self.dice, self.table).hex()
         return 'table block ' + line[12:].upper() if self.dice.chance(0.2) else line
+
+    def line_block_of_table(self):
+        """Half of them new blocks, most with a month, of which some are too early."""
+        table = self.dice.pick((BULLETIN, self.dice.pick((T, N, TWO_DOWN)), None, None, None, None)) or random_table(self.dice)
+        if self.dice.chance(0.5):
+            return block_line(table)
+        return new_block_line(table.vouched_to(random_vouched_number(self.dice, table)))
 
     def line_kernel(self):
         return self.line_of_file('table kernel ', KERNEL_FILES)
@@ -686,6 +699,52 @@ BLOCKS = (
     block_line(BULLETIN),
 )
 
+NEW_BLOCKS = (
+    new_block_line(BULLETIN),
+    'after UTC 9999-12-31T23:59:58',
+    new_block_line(BULLETIN.vouched_to(660)),
+    'after UTC 2026-12-31T23:59:58',
+    'after UTC 2026-12-31T23:59:59',
+    'show TAI 2027-01-01T00:00:36.999999 on UTC',
+    'show TAI 2027-01-01T00:00:37 on UTC',
+    'pass AURORA-3 from UTC 2026-12-31T23:58:30 to UTC 2027-01-01T00:01:30',
+    'table',
+    'vouched 2027-01',
+    'after UTC 2026-12-31T23:59:59',
+    'table block ' + second.new_block_of_table(BULLETIN.vouched_to(541)).hex().upper(),
+    'after UTC 2017-01-31T23:59:59',
+    'vouched 2016-12',
+    'after UTC 2017-01-31T23:59:59',
+    block_line(BULLETIN),
+    'after UTC 2017-01-31T23:59:59',
+    new_block_line(BULLETIN.vouched_to(LAST_MONTH)),
+    'after UTC 9999-11-30T23:59:59',
+    new_block_line(BULLETIN.vouched_to(LAST_MONTH + 1)),
+    'after UTC 9999-12-31T23:59:58',
+    'table cards leapseconds.tp',
+    'table block 000101',
+    'after UTC 1972-01-31T23:59:59',
+    'after TAI 1972-01-31T23:59:59',
+    'table block 0007020D',
+    'after UTC 1972-06-30T23:59:58',
+    'after UTC 1972-06-30T23:59:59',
+    'after UTC 1972-07-31T23:59:59',
+    'table block 00d0f005029fe10b',
+    'after UTC 9999-12-31T23:59:58',
+    'table block 00cff005029fe10b',
+    new_block_line(SIXTY_FOUR_DOWN.vouched_to(64)),
+    'after UTC 1977-04-30T23:59:59',
+    new_block_line(T.vouched_to(13)),
+    'after UTC 1973-01-31T23:59:59',
+    new_block_line(T),
+    'after UTC 1973-01-31T23:59:59',
+    *('table block ' + block for block in (
+        '00', '0000', '000000', '000002', '000041', '0080', '008080', '00808080', '008000', '008d00030c0c', '8000', '800000', '800d030c0c',
+        '00f1f00501', '00d1f00501', '00d1f005', '00ffff7f01', '000c030c0c', '000c030c0c00', '000c030c', '000d03', '000d030c', '000d030c80',
+        '000d030c8000', '000d0300', '000d030c0c00', '009d040100', '00d0f00502a0e10b', '01000d030c0c', '000d000d030c0c', '000d030c0',
+        '000d 030c0c', '00 0d030c0c')),
+)
+
 KERNELS = (
     block_line(T),
     'table kernel no-such-file',
@@ -878,8 +937,8 @@ WITHOUT_TABLE = (
     'table cards leapseconds.tp',
     'after UTC 2016-12-31T23:59:59',
     *(line for losing in ('table block ', 'table block 02', 'table block 8100', 'table block 0201', 'table block 41', 'table block 0100',
-                          'table block zz', 'table kernel no-such-file', 'table kernel ', 'table kernel leapseconds.tp',
-                          'table cards no-such-file', 'table cards ', 'table cards leapseconds.tls')
+                          'table block 000c030c0c', 'table block zz', 'table kernel no-such-file', 'table kernel ',
+                          'table kernel leapseconds.tp', 'table cards no-such-file', 'table cards ', 'table cards leapseconds.tls')
       for line in (losing, 'after UTC 2016-12-31T23:59:59', block_line(BULLETIN))),
     'table block',
     'table kernel',
@@ -901,7 +960,8 @@ def with_table_again(lines):
 
 def stored_lines():
     """All ASCII and no NUL, so that tools for text take the file for one; random lines have the other bytes too."""
-    for section in (EXAMPLES, DIFFERENCES, SHOWN, NEXT_SECONDS, SUMS, PASSES, REFUSED_STAMPS, BLOCKS, KERNELS, CARDS, VOUCHED):
+    for section in (EXAMPLES, DIFFERENCES, SHOWN, NEXT_SECONDS, SUMS, PASSES, REFUSED_STAMPS, BLOCKS, NEW_BLOCKS, KERNELS, CARDS,
+                    VOUCHED):
         yield from with_table_again(section)
     yield from WITHOUT_TABLE
     for section in (REASONS, OTHER_LINES):

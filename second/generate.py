@@ -123,6 +123,11 @@ def table_of_one_step(month, step):
     return table_of_steps([month], [step])
 
 
+def table_of_longest_block():
+    """As many gaps of three groups as there is time for, and two groups for the rest."""
+    return table_of_steps(list(itertools.accumulate([8_192] * 11 + [64] * 52)), [1] * 63)
+
+
 def neighbours(first, count):
     return list(range(first, first + count))
 
@@ -466,6 +471,64 @@ def random_block(dice, table):
         return numbers(count, *entries)
     block = second.block_of_table(edges_of(table) if dice.chance(0.3) else random_table(dice))
     return block if kind < 5 else dice.pick(list(damaged_blocks(block)))
+
+
+# New blocks, and blocks that are moved
+
+OPENING = numbers(0, 0)  # of a new block with no month
+NUMBERS_OF_MONTHS = (0, 1, 2, 127, 128, 129, 16_383, 16_384, LAST_MONTH, LAST_MONTH + 1, LAST_MONTH + 2, 2**21 - 1, 2**21)
+MONTHS_FOR_T = (0, 12, 13, LAST_MONTH + 1, LAST_MONTH + 2)  # none, the one before its last entry, that entry's, the last month, past it
+
+
+def parts_of_openings():
+    """First numbers, and behind a first number of 0 month numbers, at their limits and in forms that are not the shortest."""
+    for begin in (b'', b'\x00'):
+        for value in NUMBERS_OF_MONTHS:
+            yield begin + numbers(value)
+        for value in (0, 1, 13, 127):
+            yield from (begin + number_in_groups(value, groups) for groups in (1, 2, 3, 4))
+        yield from (begin + part for part in (b'', b'\x80', b'\xff\xff', b'\x80\x80\x80', b'\xff\xff\xff\x7f'))
+
+
+def new_blocks_of_limits():
+    """Openings at their limits alone and before T, months about the last entry, and of two faults the one that is answered."""
+    for part in parts_of_openings():
+        yield from (part, part + second.block_of_table(T))
+    for table in (table_of_steps([], []), T, N, table_of_one_step(LAST_MONTH, 1), BULLETIN):
+        for number in vouched_numbers(table):
+            yield numbers(0, number) + second.block_of_table(table)
+    for number in MONTHS_FOR_T:
+        for rest in ('', '00', '01', '02', '41', '8100', '0201', '02808080', '02a0e10b', '03', '030c', '030c80', '030c8000', '030c00',
+                     '030c0c00', '030c0c80'):
+            yield numbers(0, number) + bytes.fromhex(rest)
+
+
+def random_new_block(dice, table):
+    kind = dice.weighted(((1, 'bytes'), (2, 'limit'), (1, 'old'), (2, 'opened'), (4, 'table'), (4, 'damaged')))
+    if kind == 'bytes':
+        return b'\x00' + bytes(dice.below(256) for _ in range(dice.below(12)))
+    if kind == 'limit':
+        return dice.pick(list(new_blocks_of_limits()))
+    if kind == 'old':
+        return random_block(dice, table)
+    if kind == 'opened':
+        return dice.pick(list(parts_of_openings())) + random_block(dice, table)
+    table = edges_of(table) if dice.chance(0.3) else random_table(dice)
+    block = numbers(0, random_vouched_number(dice, table)) + second.block_of_table(table)
+    return block if kind == 'table' else dice.pick(list(damaged_blocks(block)))
+
+
+def random_either_block(dice, table):
+    """Mostly an old block, for a reader of these."""
+    return random_new_block(dice, table) if dice.chance(0.2) else random_block(dice, table)
+
+
+def table_read(read, block, other):
+    """The table of the block, or the other where the block is refused."""
+    try:
+        return read(block)
+    except second.Refused:
+        return other
 
 
 # ---------------------------------------------------------------------------
@@ -1225,6 +1288,9 @@ LONG_LINES = (  # each of any size: a good call made long by leading zeros, a lo
     lambda size: 'tick 1972 1 1 0 0 ' + '7'.rjust(size - 18, '0'),
     lambda size: 'stamp_of -' + '5'.rjust(size - 12, '0') + ' 1',
     lambda size: ('read_block ' if size % 2 == 1 else 'read_block -').ljust(size, '0'),
+    lambda size: ('read_new_block ' if size % 2 == 1 else 'read_new_block -').ljust(size, '0'),
+    lambda size: ('renew ' if size % 2 == 0 else 'renew -').ljust(size - 4, '0') + ' 0 8',
+    lambda size: ('revert ' if size % 2 == 0 else 'revert -').ljust(size - 3, '0') + ' 08',
     lambda size: ('read_kernel ' if size % 2 == 0 else 'read_kernel -').ljust(size, '3'),
     lambda size: ('read_cards ' if size % 2 == 1 else 'read_cards -').ljust(size, '3'),
     lambda size: ('read_text 0 ' if size % 2 == 0 else 'read_text 00 ').ljust(size, '3'),
@@ -1247,7 +1313,7 @@ def random_long_line(dice):
 
 GOOD_LINES = (
     'table 2 2 0 10 6 11', 'read_block 030C0c', 'read_block -', 'write_block 29', 'read_kernel 5C5c', 'write_kernel 60', 'read_cards 2a2A',
-    'write_cards 162',
+    'write_cards 162', 'read_new_block 000D030c0C', 'write_new_block 31', 'renew 030C0c 13 6', 'revert 000D030c0C 4',
     'instant_of 0 1972 6 30 23 59 60 250000',
     'stamp_of -867931190000000 0', 'read_text 0 313937322d30372d30315430303a30303a3030', 'read_text 1 -', 'write_text 0 0 1 3 23',
     'write_julian 0 1', 'read_julian 1 4142b42c40000000 3fe0000000000000', 'start', 'tick 1972 6 30 23 59 59', 'vouch 541',
@@ -1284,8 +1350,14 @@ OTHER_LINES = ('', ' ', '-', '?', '#', 'ok', '\r', 'starts', 'star', 'START', 't
                'write_text 0 0 0 0 8193', 'write_text 0 0 0 0 0', 'write_text 0 0 0 0 8192', 'read_kernel', 'read_kernel -',
                'read_kernel 5', 'read_kernel 5g', 'read_kernel -5c', 'write_kernel 8192', 'write_kernel 8193', 'write_kernel -1',
                'write_kernel', 'read_cards', 'read_cards -', 'read_cards 2', 'read_cards 2g', 'read_cards -2a', 'write_cards 8192',
-               'write_cards 8193', 'write_cards -1', 'write_cards', 'read_card 2a', 'write_card 81', 'vouch', 'vouch ', 'vouch x',
-               'vouch 1 2', 'vouch -1', 'vouch 4294967295', 'vouch 4294967296', 'vouched 1', 'vouch 00541', 'vouch -0', 'café',
+               'write_cards 8193', 'write_cards -1', 'write_cards', 'read_card 2a', 'write_card 81', 'read_new_block',
+               'read_new_block -', 'read_new_block 0', 'read_new_block 0g', 'read_new_block -00', 'read_new_block 00 01',
+               'read_newblock 00', 'write_new_block', 'write_new_block 8192', 'write_new_block 8193', 'write_new_block -1', 'renew',
+               'renew 01', 'renew 01 0', 'renew - 0 4', 'renew 0 0 4', 'renew 01 0 8192', 'renew 01 0 8193', 'renew 01 0 -1',
+               'renew 01 -1 4', 'renew 01 -0 04', 'renew 01 4294967295 4', 'renew 01 4294967296 4', 'renew 01 0 4 0', 'renewed 01 0 4',
+               'revert', 'revert 000001', 'revert - 1', 'revert 000001 8192', 'revert 000001 8193', 'revert 000001 -1', 'revert 000001 0 1',
+               'revert 00000 1', 'revert 00 0001 1', 'reverted 000001 1', 'vouch', 'vouch ', 'vouch x', 'vouch 1 2', 'vouch -1',
+               'vouch 4294967295', 'vouch 4294967296', 'vouched 1', 'vouch 00541', 'vouch -0', 'café',
                'read_text 0 é', '\xff\xfe', 'start\x0b', 'start #')
 
 
@@ -1295,7 +1367,8 @@ OTHER_LINES = ('', ' ', '-', '?', '#', 'ok', '\r', 'starts', 'star', 'START', 't
 class Lines:
     """Random lines; it remembers the table that they have set."""
 
-    WEIGHTS = ((4, 'table'), (5, 'vouch'), (10, 'read_block'), (3, 'write_block'), (14, 'read_kernel'), (2, 'write_kernel'),
+    WEIGHTS = ((4, 'table'), (5, 'vouch'), (10, 'read_block'), (3, 'write_block'), (9, 'read_new_block'),
+               (3, 'write_new_block'), (8, 'renew'), (6, 'revert'), (14, 'read_kernel'), (2, 'write_kernel'),
                (14, 'read_cards'), (3, 'write_cards'),
                (12, 'instant_of'), (14, 'stamp_of'), (18, 'read_text'), (14, 'write_text'), (8, 'write_julian'), (14, 'read_julian'),
                (1, 'start'), (12, 'tick'), (5, 'damaged'))
@@ -1324,12 +1397,33 @@ class Lines:
         self.table = self.table.vouched_to(number)
         return vouch_line(number)
 
+    def hex_in_any_case(self, data):
+        word = hex_word(data)
+        return word.upper() if self.dice.chance(0.2) else word
+
     def line_read_block(self):
-        word = hex_word(random_block(self.dice, self.table))
-        return call('read_block', word.upper() if self.dice.chance(0.2) else word)
+        return call('read_block', self.hex_in_any_case(random_either_block(self.dice, self.table)))
 
     def line_write_block(self):
         return call('write_block', random_room(self.dice, len(second.block_of_table(edges_of(self.table)))))
+
+    def line_read_new_block(self):
+        return call('read_new_block', self.hex_in_any_case(random_new_block(self.dice, self.table)))
+
+    def line_write_new_block(self):
+        return call('write_new_block', random_room(self.dice, len(second.new_block_of_table(edges_of(self.table)))))
+
+    def line_renew(self):
+        block = random_either_block(self.dice, self.table)
+        table = table_read(second.read_block, block, edges_of(self.table))
+        number = random_vouched_number(self.dice, table)
+        room = random_room(self.dice, len(second.new_block_of_table(table.vouched_to(number))))
+        return call('renew', self.hex_in_any_case(block), number, room)
+
+    def line_revert(self):
+        block = random_new_block(self.dice, self.table)
+        table = table_read(second.read_new_block, block, edges_of(self.table))
+        return call('revert', self.hex_in_any_case(block), random_room(self.dice, len(second.block_of_table(table))))
 
     def line_read_kernel(self):
         return call('read_kernel', hex_word(random_kernel(self.dice, self.table)))
@@ -1553,7 +1647,7 @@ def calendar():
 def one_of_each_call(scale):
     """Calls with nothing else wrong, then with all else wrong: the order of 8, 11 and the rest."""
     yield from ('start', 'tick 1972 6 30 23 59 59', 'tick 0 0 0 99 99 99', 'write_block 256', 'write_block 0', 'write_kernel 256',
-                'write_kernel 0', 'write_cards 256', 'write_cards 0')
+                'write_kernel 0', 'write_cards 256', 'write_cards 0', 'write_new_block 256', 'write_new_block 0')
     yield call('instant_of', scale, 1972, 6, 30, 23, 59, 59, 0)
     yield call('instant_of', scale, 0, 0, 0, 99, 99, 99, SECOND)
     yield call('stamp_of', -867_931_190_000_000, scale)
@@ -1573,6 +1667,7 @@ def tables():
         yield table_line(table)
         size = len(second.block_of_table(table))
         yield from (call('write_block', size), call('write_block', size - 1), call('read_block', hex_word(second.block_of_table(table))))
+        yield from new_block_and_back(table)
         kernel = second.kernel_of_table(table)
         yield from (call('write_kernel', len(kernel)), call('write_kernel', len(kernel) - 1), kernel_line(kernel))
         yield call('write_cards', size_of_cards(table))
@@ -1591,7 +1686,7 @@ def tables():
         for heading, malformed in malformed_tables(table):
             yield '# malformed: ' + heading
             yield table_line(malformed)
-            yield from ('start', 'tick 1972 6 30 23 59 59', 'write_block 256', 'write_kernel 0', 'write_cards 243')
+            yield from ('start', 'tick 1972 6 30 23 59 59', 'write_block 256', 'write_kernel 0', 'write_cards 243', 'write_new_block 6')
             yield call('stamp_of', 0, TAI)
     for malformed in (changed(T, count=0), changed(N, offset=(1, 12))):
         for scale in (UTC, GPS, 4):
@@ -1611,6 +1706,67 @@ def blocks():
     yield call('read_block', hex_word(b'\x40' + b'\xf4\x17' * 63))
     yield call('read_block', hex_word(b'\x40' + b'\xf5\x17' * 63 + b'\x00'))
     yield call('read_block', hex_word(b'\x40' + b'\xf8\x17' * 63))
+
+
+def new_block_and_back(table):
+    """A good table's new block written, read and moved; both moves with a byte too few."""
+    old, new = second.block_of_table(table), second.new_block_of_table(table)
+    yield from (call('write_new_block', len(new)), call('write_new_block', len(new) - 1), call('read_new_block', hex_word(new)))
+    yield from (call('renew', hex_word(old), 0, room) for room in (len(new), len(new) - 1))
+    yield from (call('revert', hex_word(new), room) for room in (len(old), len(old) - 1))
+
+
+def rows_of_new_blocks():
+    """Bulletin C's with no month, to January 2017 and to December 9999; then refusals, each with its place."""
+    for number in (0, 541, LAST_MONTH + 1):
+        new = second.new_block_of_table(BULLETIN.vouched_to(number))
+        yield from (table_line(BULLETIN), vouch_line(number), call('write_new_block', len(new)), call('read_new_block', hex_word(new)))
+    for block in ('-', '00', '0000', '00f1f00501', '000c030c0c', '000c030c0c00', '008d00030c0c', '8000', '030c0c', '000d030c0c'):
+        yield from (call('read_new_block', block), call('read_block', block))
+    yield from ('renew 030c0c 12 5', 'renew 030c0c 13 5', 'renew 000d030c0c 0 7')
+    yield from ('revert 000d030c0c 3', 'revert 000c030c0c 3', 'revert 030c0c 3')
+
+
+def months_about_tables():
+    """Each limit of the month under good tables, written and moved, in rooms about the size and in none."""
+    for table in (table_of_steps([], []), T, table_of_one_step(LAST_MONTH, -1), BULLETIN, table_of_steps(neighbours(1, 63), [-1] * 63),
+                  table_of_longest_block()):
+        old = second.block_of_table(table)
+        yield table_line(table)
+        for number in vouched_numbers(table):
+            new = numbers(0, number) + old
+            yield vouch_line(number)
+            for room in (len(new) - 1, len(new), len(new) + 1):
+                yield from (call('write_new_block', room), call('renew', hex_word(old), number, room))
+            yield from (call('revert', hex_word(new), room) for room in (len(old) - 1, len(old), len(old) + 1))
+            yield from ('write_new_block 0', call('renew', hex_word(old), number, 0), call('revert', hex_word(new), 0))
+    yield table_line(BULLETIN)
+
+
+def moves_of_faults():
+    """Blocks with faults and good ones in enough room, and T's also with a month that it cannot carry and no room."""
+    for block in blocks_of_limits():
+        yield call('renew', hex_word(block), 0, len(block) + len(OPENING))
+    for block in damaged_blocks(second.block_of_table(T)):
+        yield call('renew', hex_word(block), 12, 0)
+        yield call('renew', hex_word(block), 13, 5)
+    for block in new_blocks_of_limits():
+        yield call('revert', hex_word(block), max(0, len(block) - len(OPENING)))
+
+
+def new_blocks():
+    yield from rows_of_new_blocks()
+    yield '# openings, and old blocks behind one'
+    yield from (call('read_new_block', hex_word(block)) for block in new_blocks_of_limits())
+    yield from (call('read_new_block', hex_word(OPENING + block)) for block in blocks_of_limits())
+    yield "# T's and B's damaged at each place"
+    for table in (T.vouched_to(13), T.vouched_to(LAST_MONTH + 1), BULLETIN.vouched_to(541)):
+        for block in damaged_blocks(second.new_block_of_table(table)):
+            yield call('read_new_block', hex_word(block))
+    yield '# months about the last entry, and room'
+    yield from months_about_tables()
+    yield '# moves of blocks with faults'
+    yield from moves_of_faults()
 
 
 def kernel_line(file):
@@ -1727,6 +1883,9 @@ def buffers():
             yield call('write_text', instant, picture, scale, digits, room)
     for room in (0, 1, 28, 29, 30, 256, 257, MOST_ROOM, MOST_ROOM + 1):
         yield call('write_block', room)
+    block, new = (hex_word(part(BULLETIN)) for part in (second.block_of_table, second.new_block_of_table))
+    for room in (0, 1, 30, 31, 32, MOST_ROOM, MOST_ROOM + 1):
+        yield from (call('write_new_block', room), call('renew', block, 0, room), call('revert', new, room))
     for room in (256, 257, MOST_ROOM, MOST_ROOM + 1):
         yield call('write_text', instant, 0, UTC, 6, room)
     for near in range(-3, 3):
@@ -1979,7 +2138,8 @@ def numbers_in_force():
     block, kernel = (hex_word(part(BULLETIN)) for part in (second.block_of_table, second.kernel_of_table))
     yield from (table_line(BULLETIN), beyond, vouch_line(541), beyond, vouch_line(542), beyond, vouch_line(540), beyond, vouch_line(541))
     for line in ('table', 'table 1 1 0', 'table 1 65', 'write_block 29', 'write_kernel 1032', call('read_block', block), 'read_block 01',
-                 call('read_kernel', kernel), 'write_cards 2268', cards_line(second.cards_of_table(BULLETIN)), 'vouch 1 2', 'vouch', '',
+                 call('read_kernel', kernel), 'write_cards 2268', cards_line(second.cards_of_table(BULLETIN)), 'read_new_block 000001',
+                 'read_new_block 0', 'write_new_block 32', call('renew', block, 542, 32), 'revert 000101 1', 'vouch 1 2', 'vouch', '',
                  table_line(BULLETIN)):
         yield from (line, beyond)
     for word in ('', 'x', '-1', '-0', '00', '+541', '0x21d', '541 ', '541\r', '0' * 40 + '541', str(2**32 - 1), str(2**32), '9' * 40):
@@ -2018,6 +2178,7 @@ SECTIONS = (
     ('The calendar and the order of the refusals', calendar),
     ('Tables', tables),
     ('Blocks', blocks),
+    ('New blocks and moves', new_blocks),
     ('Kernels', kernels),
     ('Cards', cards),
     ('Texts wrong at each position', texts),

@@ -38,7 +38,7 @@ from typing import NamedTuple
 
 
 class Refused(Exception):
-    """A call's refusal: its number, and the place while reading a block, a kernel or cards."""
+    """A call's refusal: its number, and the place while reading or moving a block, or reading a kernel or cards."""
 
     def __init__(self, number, place=0):
         super().__init__(number, place)
@@ -346,6 +346,10 @@ def vouched_month_of_number(number):
     return number - 1 if number > 0 else None
 
 
+def number_of_vouched_month(month):
+    return 0 if month is None else month + 1
+
+
 def is_good_vouched_month(month, month_of_last_entry):
     return month is None or month_of_last_entry <= month <= LAST_MONTH
 
@@ -384,10 +388,11 @@ def number_in_block(block, place):
     raise Refused(GROUPS, place)
 
 
-def read_block(block):
-    count, place = number_in_block(block, 0)
+def table_from_place(block, begin):
+    """The table of the old block that begins at this place and has the rest of the bytes."""
+    count, place = number_in_block(block, begin)
     if not 1 <= count <= PLACES:
-        raise Refused(TABLE, 0)
+        raise Refused(TABLE, begin)
     months, offsets = [0], [10]
     for _ in range(1, count):
         value, next_place = number_in_block(block, place)
@@ -400,6 +405,10 @@ def read_block(block):
     if place < len(block):
         raise Refused(TAIL, place)
     return Table(count, months, offsets)
+
+
+def read_block(block):
+    return table_from_place(block, 0)
 
 
 def groups_of_number(value):
@@ -430,6 +439,49 @@ def fit(result, room):
 def write_block(table, room):
     check_table(table)
     return fit(block_of_table(table), room)
+
+
+# The new block: the number 0, the number of the vouched month, the old block
+
+NEW_FORM = 0  # no old block begins with it, since a table has an entry
+
+
+def read_new_block(block):
+    form, place_of_month = number_in_block(block, 0)
+    if form != NEW_FORM:
+        raise Refused(TABLE, 0)
+    number, begin = number_in_block(block, place_of_month)
+    if number > number_of_vouched_month(LAST_MONTH):
+        raise Refused(TABLE, place_of_month)
+    table = table_from_place(block, begin).vouched_to(number)
+    if not table.is_good:  # its entries are good, so it is the month
+        raise Refused(TABLE, place_of_month)
+    return table
+
+
+def read_either_block(block):
+    """In the form that its first byte tells."""
+    return read_new_block(block) if block[:1] == groups_of_number(NEW_FORM) else read_block(block)
+
+
+def new_block_of_table(table):
+    opening = groups_of_number(NEW_FORM) + groups_of_number(number_of_vouched_month(table.vouched_month))
+    return opening + block_of_table(table)
+
+
+def write_new_block(table, room):
+    check_table(table)
+    return fit(new_block_of_table(table), room)
+
+
+def renew(block, number, room):
+    """The new block of an old one, with this number for the vouched month."""
+    return write_new_block(read_block(block).vouched_to(number), room)
+
+
+def revert(block, room):
+    """The old block of a new one, without its month."""
+    return write_block(read_new_block(block), room)
 
 
 # ---------------------------------------------------------------------------
@@ -969,22 +1021,38 @@ def words_of_bits(double):
     return struct.pack('>d', double).hex()
 
 
-def words_of_table(table):
+def words_of_entries(table):
     used = [i for i in range(PLACES) if table.months[i] or table.offsets[i]]
     pairs = used[-1] + 1 if used else 0
-    return words_of(table.count, pairs, *(number for i in range(pairs)
-                                          for number in (table.months[i], table.offsets[i])))
+    return words_of(pairs, *(number for i in range(pairs) for number in (table.months[i], table.offsets[i])))
+
+
+def words_of_table(table):
+    return words_of(table.count, words_of_entries(table))
+
+
+def words_of_vouched_table(table):
+    return words_of(table.count, number_of_vouched_month(table.vouched_month), words_of_entries(table))
+
+
+def answer_or_place(give, zeros):
+    """After two zeros the words of an answer, or a refusal's number, its place and zero in all other results."""
+    try:
+        return words_of(0, 0, give())
+    except Refused as refused:
+        return words_of(refused.number, refused.place, zeros)
 
 
 def answer_of_reader(read, file):
-    try:
-        return f'0 0 {words_of_table(read(file))}'
-    except Refused as refused:
-        return words_of(refused.number, refused.place, 0, 0)
+    return answer_or_place(lambda: words_of_table(read(file)), '0 0')
 
 
 def answer_read_block(_, block):
     return answer_of_reader(read_block, block)
+
+
+def answer_read_new_block(_, block):
+    return answer_or_place(lambda: words_of_vouched_table(read_new_block(block)), '0 0 0')
 
 
 def answer_read_kernel(_, file):
@@ -995,20 +1063,32 @@ def answer_read_cards(_, file):
     return answer_of_reader(read_cards, file)
 
 
-def words_of_written(number, result, room):
+def words_of_written(result, room):
     buffer = result + BEFORE_THE_CALL * (room - len(result))
-    return words_of(number, len(result), buffer.hex() or '-')
+    return words_of(len(result), buffer.hex() or '-')
 
 
 def answer_of_writer(write, table, room):
     try:
-        return words_of_written(0, write(table, room), room)
+        return words_of(0, words_of_written(write(table, room), room))
     except Refused as refused:
-        return words_of_written(refused.number, b'', room)
+        return words_of(refused.number, words_of_written(b'', room))
 
 
 def answer_write_block(table, room):
     return answer_of_writer(write_block, table, room)
+
+
+def answer_write_new_block(table, room):
+    return answer_of_writer(write_new_block, table, room)
+
+
+def answer_renew(_, block, number, room):
+    return answer_or_place(lambda: words_of_written(renew(block, number, room), room), words_of_written(b'', room))
+
+
+def answer_revert(_, block, room):
+    return answer_or_place(lambda: words_of_written(revert(block, room), room), words_of_written(b'', room))
 
 
 def answer_write_kernel(table, room):
@@ -1022,9 +1102,9 @@ def answer_write_cards(table, room):
 def answer_write_text(table, instant, picture, scale, digits, room):
     try:
         text = write_text(table, instant, picture, scale, digits, room)
-        return words_of(words_of_written(0, text, room), marks_of_instant(table, scale, instant))
+        return words_of(0, words_of_written(text, room), marks_of_instant(table, scale, instant))
     except Refused as refused:
-        return words_of(words_of_written(refused.number, b'', room), 0)
+        return words_of(refused.number, words_of_written(b'', room), 0)
 
 
 def answer_or_zeros(give, zeros):
@@ -1086,6 +1166,10 @@ def answer_tick(table, *fields):
 CALLS = {  # each with the types of its words
     b'read_block': (answer_read_block, (HEX_BYTES,)),
     b'write_block': (answer_write_block, (ROOM_OF_BUFFER,)),
+    b'read_new_block': (answer_read_new_block, (HEX_BYTES,)),
+    b'write_new_block': (answer_write_new_block, (ROOM_OF_BUFFER,)),
+    b'renew': (answer_renew, (HEX_BYTES, U32, ROOM_OF_BUFFER)),
+    b'revert': (answer_revert, (HEX_BYTES, ROOM_OF_BUFFER)),
     b'read_kernel': (answer_read_kernel, (HEX_BYTES,)),
     b'write_kernel': (answer_write_kernel, (ROOM_OF_BUFFER,)),
     b'read_cards': (answer_read_cards, (HEX_BYTES,)),

@@ -7,6 +7,7 @@ its silent places, not taken from the program.
 
 import datetime
 import io
+import itertools
 import math
 import os
 import re
@@ -562,6 +563,168 @@ def test_number_in_force():
 
 
 # ---------------------------------------------------------------------------
+# New blocks, and blocks that are moved
+
+B_HEX = '1c0c0c18181818181818241818303c3018241818242424a80148544824'
+T_HEX = '030c0c'
+NO_TABLE_LINE = 'table 0 0'
+UNTOUCHED = 'a5'  # each byte of a lent buffer that is not written
+
+
+def expect_new_block(block, answer):
+    """Whatever table is in force."""
+    for table in (B_LINE, NO_TABLE_LINE):
+        expect('read_new_block ' + block, answer, table)
+
+
+def expect_new_block_fault(block, number, place):
+    """Read, and moved with no room and with room enough, into bytes that stay as they were."""
+    expect_new_block(block, f'{number} {place} 0 0 0')
+    expect(f'revert {block} 0', f'{number} {place} 0 -')
+    expect(f'revert {block} 40', f'{number} {place} 0 ' + UNTOUCHED * 40)
+
+
+def expect_block_fault(block, number, place):
+    """The same of an old block; a month that no table can carry does not come before it."""
+    expect('read_block ' + block, f'{number} {place} 0 0')
+    for vouched in (0, 1, 96_337):
+        expect(f'renew {block} {vouched} 0', f'{number} {place} 0 -', NO_TABLE_LINE)
+        expect(f'renew {block} {vouched} 40', f'{number} {place} 0 ' + UNTOUCHED * 40)
+
+
+def test_new_blocks_of_bulletin_c():
+    entries = B_LINE.removeprefix('table 28 ')
+    for number, opening in ((0, '0000'), (541, '009d04'), (96_336, '00d0f005')):
+        size = len(opening + B_HEX) // 2
+        assert size in (31, 32, 33)
+        assert answers(f'vouch {number}', f'write_new_block {size}', f'write_new_block {size - 1}') == [
+            'ok', f'0 {size} {opening}{B_HEX}', '1 0 ' + UNTOUCHED * (size - 1)]
+        expect_new_block(opening + B_HEX, f'0 0 28 {number} {entries}')
+        expect_new_block((opening + B_HEX).upper(), f'0 0 28 {number} {entries}')
+        expect(f'renew {B_HEX} {number} {size}', f'0 0 {size} {opening}{B_HEX}', NO_TABLE_LINE)
+        expect(f'revert {opening}{B_HEX} 29', f'0 0 29 {B_HEX}', NO_TABLE_LINE)
+    expect_new_block_fault('009c04' + B_HEX, 11, 1)
+
+
+def test_new_blocks_read():
+    t_entries = '3 0 10 6 11 12 12'
+    for number, month in ((0, '00'), (13, '0d'), (127, '7f'), (128, '8001'), (16_383, 'ff7f'), (16_384, '808001'), (96_335, 'cff005'),
+                          (96_336, 'd0f005')):
+        expect_new_block(f'00{month}{T_HEX}', f'0 0 3 {number} {t_entries}')
+    expect_new_block('000001', '0 0 1 0 1 0 10')
+    expect_new_block('000101', '0 0 1 1 1 0 10')
+    expect_new_block('0007020d', '0 0 2 7 2 0 10 6 9')
+    expect_new_block('00d0f005029fe10b', '0 0 2 96336 2 0 10 96335 9')
+
+
+def test_openings_refused():
+    """The first number, then the month's, each by its form and then by its value, before anything behind it."""
+    for block, number, place in (('-', 9, 0), ('80', 9, 0), ('8080', 9, 0), ('808080', 10, 0), ('8000', 10, 0), ('808000', 10, 0),
+                                 ('8100', 10, 0), ('01', 11, 0), ('02', 11, 0), ('7f', 11, 0), ('8001', 11, 0), ('ffff7f', 11, 0),
+                                 ('01808080', 11, 0), ('03ffff7f', 11, 0)):
+        expect_new_block_fault(block, number, place)
+    for block, number, place in (('00', 9, 1), ('0080', 9, 1), ('008d', 9, 1), ('008080', 9, 1), ('00d1f0', 9, 1), ('00808080', 10, 1),
+                                 ('00ffffff', 10, 1), ('008000', 10, 1), ('00808000', 10, 1), ('008d00030c0c', 10, 1),
+                                 ('00d0f08500030c0c', 10, 1), ('00f1f00501', 11, 1), ('00d1f005', 11, 1), ('00d1f00501', 11, 1),
+                                 ('00d1f0058000', 11, 1), ('00d1f00541', 11, 1), ('00d1f0050100', 11, 1), ('00ffff7f', 11, 1)):
+        expect_new_block_fault(block, number, place)
+
+
+def test_old_parts_refused():
+    """With the opening's bytes before each place, also where the month would be too early; the month is judged last of all."""
+    faults = (('', 9, 0), ('80', 9, 0), ('00', 11, 0), ('41', 11, 0), ('8100', 10, 0), ('808080', 10, 0), ('02', 9, 1), ('028080', 9, 1),
+              ('02808080', 10, 1), ('0200', 11, 1), ('0201', 11, 1), ('02a0e10b', 11, 1), ('0100', 12, 1), ('018080', 12, 1), ('03', 9, 1),
+              ('030c', 9, 2), ('030c8c', 9, 2), ('030c8000', 10, 2), ('030c01', 11, 2), ('030c0c00', 12, 3), ('030c0c80', 12, 3))
+    for opening in ('0000', '0001', '000c', '000d', '009d04', '00d0f005'):
+        for block, number, place in faults:
+            expect_new_block_fault(opening + block, number, place + len(opening) // 2)
+    expect_new_block_fault('0000', 9, 2)
+    expect_new_block_fault('000c030c0c', 11, 1)
+    expect_new_block_fault('000c030c0c00', 12, 5)
+    expect_new_block_fault('0001030c0c', 11, 1)
+    expect_new_block_fault('0006020d', 11, 1)
+    expect_new_block_fault('00cff005029ee10b', 11, 1)
+
+
+def test_each_form_read_as_the_other():
+    for block in ('01', '020d', T_HEX, B_HEX, '029fe10b'):
+        expect_new_block_fault(block, 11, 0)
+    for block in ('000001', '000101', '0000030c0c', '000d030c0c', '00d0f005029fe10b', '0000' + B_HEX, '009d04' + B_HEX, '00'):
+        expect_block_fault(block, 11, 0)
+        assert second.listing((block.encode(), b'1972-01-01T00:00:00', b'1')) == b'refused 11\n'
+
+
+def test_new_blocks_written():
+    expect('write_new_block 3', '0 3 000001', 'table 1 1 0 10')
+    expect('write_new_block 7', '0 5 0000030c0ca5a5', T_LINE)
+    expect('write_new_block 4', '1 0 a5a5a5a5', T_LINE)
+    expect('write_new_block 0', '1 0 -', T_LINE)
+    expect_vouched(13, T_LINE, ('write_new_block 5', '0 5 000d030c0c'), ('write_new_block 6', '0 5 000d030c0ca5'),
+                   ('write_new_block 4', '1 0 a5a5a5a5'), ('write_block 3', '0 3 030c0c'))
+    expect_vouched(128, T_LINE, ('write_new_block 6', '0 6 008001030c0c'), ('write_new_block 5', '1 0 a5a5a5a5a5'))
+    expect_vouched(16_384, T_LINE, ('write_new_block 7', '0 7 00808001030c0c'), ('write_new_block 6', '1 0 a5a5a5a5a5a5'))
+    for number in (1, 12, 96_337, 4_294_967_295):
+        expect_vouched(number, T_LINE, ('write_new_block 9', '11 0 ' + UNTOUCHED * 9), ('write_new_block 0', '11 0 -'))
+    for table in (NO_TABLE_LINE, 'table 2 2 0 10 6 12', 'table 1 2 0 10 0 1', 'table 65 1 0 10'):
+        expect('write_new_block 2', '11 0 a5a5', table)
+    down = 'table 64 64 0 10 ' + ' '.join(f'{month} {10 - month}' for month in range(1, 64))
+    expect('write_new_block 66', '0 66 000040' + '03' * 63, down)
+    expect('write_new_block 65', '1 0 ' + UNTOUCHED * 65, down)
+
+
+def test_the_longest_new_block():
+    """The longest old block has 138 bytes; a month number of three bytes makes it 142."""
+    months = [*range(0, 90_113, 8_192), *range(90_176, 93_441, 64)]
+    table = 'table 64 64 ' + ' '.join(f'{month} {10 + place}' for place, month in enumerate(months))
+    old = '40' + '808001' * 11 + '8001' * 52
+    new = '00d0f005' + old
+    assert (len(old), len(new)) == (2 * 138, 2 * 142)
+    expect('write_block 138', f'0 138 {old}', table)
+    expect_vouched(96_336, table, ('write_new_block 142', f'0 142 {new}'), ('write_new_block 141', '1 0 ' + UNTOUCHED * 141))
+    expect(f'renew {old} 96336 142', f'0 0 142 {new}')
+    expect(f'renew {old} 93440 142', '11 0 0 ' + UNTOUCHED * 142)
+    expect(f'revert {new} 138', f'0 0 138 {old}')
+    expect(f'revert {new} 137', '1 0 0 ' + UNTOUCHED * 137)
+
+
+def test_old_blocks_renewed():
+    for number, month in ((0, '00'), (13, '0d'), (14, '0e'), (128, '8001'), (16_384, '808001'), (96_336, 'd0f005')):
+        new = f'00{month}{T_HEX}'
+        size = len(new) // 2
+        for table in (T_LINE, NO_TABLE_LINE):
+            expect(f'renew {T_HEX} {number} {size}', f'0 0 {size} {new}', table)
+            expect(f'renew {T_HEX} {number} {size + 2}', f'0 0 {size} {new}a5a5', table)
+            expect(f'renew {T_HEX} {number} {size - 1}', '1 0 0 ' + UNTOUCHED * (size - 1), table)
+            expect(f'renew {T_HEX} {number} 0', '1 0 0 -', table)
+    for number in (1, 12, 96_337, 2**21, 2**31, 4_294_967_295):
+        expect(f'renew {T_HEX} {number} 0', '11 0 0 -')
+        expect(f'renew {T_HEX} {number} 5', '11 0 0 a5a5a5a5a5')
+    expect('renew 01 1 3', '0 0 3 000101')
+    expect('renew 029FE10B 96336 8', '0 0 8 00d0f005029fe10b')
+    expect('renew 029fe10b 96335 8', '11 0 0 ' + UNTOUCHED * 8)
+    for block, number, place in (('-', 9, 0), ('02', 9, 1), ('8100', 10, 0), ('41', 11, 0), ('0201', 11, 1), ('0100', 12, 1),
+                                 ('030c0c00', 12, 3)):
+        expect_block_fault(block, number, place)
+
+
+def test_new_blocks_reverted():
+    for month in ('00', '0d', '8001', 'd0f005'):
+        for table in (B_LINE, NO_TABLE_LINE):
+            expect(f'revert 00{month}{T_HEX} 3', f'0 0 3 {T_HEX}', table)
+            expect(f'revert 00{month}{T_HEX} 5', f'0 0 3 {T_HEX}a5a5', table)
+            expect(f'revert 00{month}{T_HEX} 2', '1 0 0 a5a5', table)
+            expect(f'revert 00{month}{T_HEX} 0', '1 0 0 -', table)
+    expect('revert 000101 1', '0 0 1 01')
+    expect('revert 00D0F005029FE10B 4', '0 0 4 029fe10b')
+
+
+def test_moves_leave_the_table():
+    for line in ('read_new_block 000001', 'read_new_block 00', 'write_new_block 32', 'write_new_block 0', 'renew 01 0 3',
+                 f'renew {B_HEX} 542 32', 'revert 000001 1', 'revert 00 1'):
+        assert answers('vouch 541', line, 'tick 2020 1 1 0 0 0', 'write_block 29')[2:] == ['0 2020 1 1 0 0 1 1', f'0 29 {B_HEX}'], line
+
+
+# ---------------------------------------------------------------------------
 # What the scope leaves open, as docs/DECISIONS.md settles it
 
 def test_readings_of_instants():
@@ -802,6 +965,11 @@ def test_lines():
                  'stamp_of 9223372036854775808 1', 'stamp_of -9223372036854775809 1', 'stamp_of 0 4294967296', 'stamp_of 0 -1',
                  'read_block 0', 'read_block 0g', 'read_block', 'read_block 01 02', 'read_block --', 'write_block 8193', 'write_block -1',
                  'write_text 0 0 0 0 8193', 'read_julian 1 - -', 'read_kernel', 'read_kernel 5', 'read_kernel 5g', 'read_kernel 5c 5c',
+                 'read_new_block', 'read_new_block 0', 'read_new_block 0g', 'read_new_block 00 01', 'write_new_block',
+                 'write_new_block 8193', 'write_new_block -1', 'renew', 'renew 01', 'renew 01 0', 'renew 01 0 8193',
+                 'renew 01 0 -1', 'renew 01 -1 4', 'renew 01 4294967296 4', 'renew 0 0 4', 'renew  0 4', 'renew 01 0 4 0',
+                 'renew 01 x 4', 'revert', 'revert 000001', 'revert 000001 8193', 'revert 000001 -1', 'revert 00000 1',
+                 'revert 000001 1 1', 'Renew 01 0 4', 'read_newblock 00',
                  'write_kernel', 'write_kernel 8193', 'write_kernel -1', 'read_cards', 'read_cards 2', 'read_cards 2g', 'read_cards 2a 2a',
                  'write_cards', 'write_cards 8193', 'write_cards -1', 'read_julian 1 3fe000000000000 3fe0000000000000',
                  'read_julian 1 03fe0000000000000 3fe0000000000000', 'table', 'table 1', 'table 1 1 0', 'table 1 1 0 10 6',
@@ -813,9 +981,11 @@ def test_lines():
     expect('tick 1972 1 1 0 0 -0', '0 1972 1 1 0 0 1')
     expect('read_julian 1 4142B42C40000000 3fE0000000000000', '0 0')
     expect('write_block 0', '1 0 -')
-    for writer in ('write_block', 'write_kernel', 'write_cards', 'write_text 0 1 1 0'):
-        for room in (4_097, 8_192):
-            assert len(answers(f'{writer} {room}')[0].split()[2]) == 2 * room
+    expect('renew 01 -0 004', '0 0 3 000001a5')
+    for place, writers in ((2, ('write_block', 'write_new_block', 'write_kernel', 'write_cards', 'write_text 0 1 1 0')),
+                           (3, ('renew 01 0', 'revert 000001'))):
+        for writer, room in itertools.product(writers, (4_097, 8_192)):
+            assert len(answers(f'{writer} {room}')[0].split()[place]) == 2 * room
     expect('write_block 8192', '0 1 01' + 'a5' * 8_191, 'table 1 1 0 10')
     expect('write_text 0 1 1 0 8192', '0 17 ' + b'2000-001T12:00:00'.hex() + 'a5' * 8_175)
     for table in ('table 1 1 0 -2147483648', 'table 1 1 4294967295 2147483647', 'table 18446744073709551615 0'):
@@ -835,6 +1005,9 @@ def test_long_lines():
     assert answers('stamp_of ' + '9' * 139_989 + ' 1') == ['?'] and answers('stamp_of -' + '0' * 139_988 + ' 1')[0].startswith('0 1 2000 ')
     assert answers('read_text 0 ' + '3' * 139_988)[0].startswith('2 ')
     assert answers('read_kernel ' + '33' * 69_994) == ['14 65536 0 0']
+    assert answers('read_new_block 000001' + '00' * 69_989) == ['12 3 0 0 0'] and answers('read_new_block ' + '00' * 69_993) == ['?']
+    assert answers('renew ' + '00' * 69_995 + ' 0 1') == ['11 0 0 a5'] and answers('renew ' + '00' * 69_996 + ' 0 1') == ['?']
+    assert answers('revert ' + '00' * 69_995 + ' 1') == ['11 2 0 a5'] and answers('revert ' + '00' * 69_996 + ' 1') == ['?']
     assert answers('read_cards ' + '2a' * 69_994) == ['11 0 0 0'] and answers('read_cards ' + '20' * 69_993 + '33') == ['15 0 0 0']
 
 
@@ -842,7 +1015,7 @@ def test_long_lines():
 # The program `desk`
 
 KERNEL_FILE, CARDS_FILE = (os.path.join(HERE, '..', 'examples', name) for name in ('leapseconds.tls', 'leapseconds.tp'))
-B_BLOCK = 'table block 1c0c0c18181818181818241818303c3018241818242424a80148544824'
+B_BLOCK = 'table block ' + B_HEX
 BEYOND = ', beyond the month that the table is vouched for'
 NIGHT = 'UTC 2016-12-31T23:58:30', 'UTC 2017-01-01T00:01:30'
 
@@ -1005,6 +1178,33 @@ def test_tables_of_the_desk():
         expect_desk_refusal('table block ' + block, 8, block.replace('\r', '?'), sentence=desk.NO_HEX)
     for line in ('table block', 'table kernel', 'table cards', 'table card x', 'table ', 'table x', 'tables', 'Table'):
         expect_desk_refusal(line, 8, line)
+
+
+def test_new_blocks_at_the_desk():
+    """A new block's table has its month; of an old block, a kernel and cards it has none, whatever stood before."""
+    b_words = '28 entries, the last 2017-01-01 with 37 s, '
+    for opening, month in (('0000', 'no month vouched for'), ('009d04', 'vouched to January 2017'), ('009405', 'vouched to December 2026'),
+                           ('00D0F005', 'vouched to December 9999')):
+        expect_desk('table block ' + opening + B_HEX, b_words + month, 'vouched 2030-01')
+        expect_desk(B_BLOCK, b_words + 'no month vouched for', 'table block ' + opening + B_HEX)
+        for file in ('kernel ' + KERNEL_FILE, 'cards ' + CARDS_FILE):
+            expect_desk('table ' + file, b_words + 'no month vouched for', 'table block ' + opening + B_HEX)
+    loaded = 'table block 009405' + B_HEX
+    expect_desk('after UTC 2026-12-31T23:59:58', 'UTC 2026-12-31T23:59:59', loaded)
+    expect_desk('after UTC 2026-12-31T23:59:59', 'UTC 2027-01-01T00:00:00' + BEYOND, loaded)
+    expect_desk('after TAI 2027-01-31T23:59:59', 'TAI 2027-02-01T00:00:00', loaded)
+    expect_desk('show TAI 2027-01-01T00:00:37 on UTC', 'UTC 2027-01-01T00:00:00.000000' + BEYOND, loaded)
+    expect_desk('vouched 2027-01', b_words + 'vouched to January 2027', loaded)
+    expect_desk('after UTC 2026-12-31T23:59:59', 'UTC 2027-01-01T00:00:00', loaded, 'vouched 2027-01')
+    expect_desk('table block 000101', '1 entry, the last 1972-01-01 with 10 s, vouched to January 1972', loaded)
+    expect_desk('after UTC 1972-07-31T23:59:59', 'UTC 1972-08-01T00:00:00' + BEYOND, 'table block 0007020d')
+    for block, number, place in (('00', 9, 1), ('0000', 9, 2), ('000d030c', 9, 4), ('008d00030c0c', 10, 1), ('8000', 10, 0),
+                                 ('00f1f00501', 11, 1), ('000c030c0c', 11, 1), ('000c030c0c00', 12, 5), ('000000', 11, 2),
+                                 ('800d01', 11, 0), ('009d04' + B_HEX + '00', 12, 32), ('009c04' + B_HEX, 11, 1), ('0100', 12, 1)):
+        expect_desk_refusal('table block ' + block, number, f'{block} at byte {place}')
+        expect_desk_refusal('after UTC 2026-12-31T23:59:59', 11, 'UTC 2026-12-31T23:59:59', loaded, 'table block ' + block)
+    for block in ('0', '000', '00 0d030c0c', '000d030c0g'):
+        expect_desk_refusal('table block ' + block, 8, block, sentence=desk.NO_HEX)
 
 
 def test_refused_tables_leave_none():
@@ -1182,7 +1382,9 @@ def test_inputs_of_desk_and_ticks():
             assert words in found, words
         for line, table, given in answered:
             behind = desk_lines.table_behind(table, line.decode('latin-1'))
-            assert second.block_of_table(behind) == second.block_of_table(given.table), line
+            assert second.new_block_of_table(behind) == second.new_block_of_table(given.table), line
+        from_new = [given.table for line, _, given in answered if line.startswith(b'table block 00') and given.is_good]
+        assert {table.vouched_month is None for table in from_new} == {True, False}
         without = [line for line, table, _ in answered if not table.is_good]
         for words in (b'between ', b'show ', b'after ', b'add ', b'pass ', b'vouched ', b'table block ', b'table kernel ', b'table cards ',
                       b'why '):
@@ -1263,6 +1465,49 @@ def test_round_trips():
         assert second.read_julian(table, scale, *second.write_julian(table, instant, scale)) == instant
 
 
+def test_blocks_there_and_back():
+    """Over random good tables and months: old to new to old is the same bytes, and new to old to new loses only the month."""
+    dice = generate.Dice(6)
+    for _ in range(3_000):
+        table = generate.random_table(dice)
+        number = dice.pick((0, dice.between(table.used_months[-1], second.LAST_MONTH) + 1))
+        vouched = table.vouched_to(number)
+        old, new = second.write_block(vouched, 256), second.write_new_block(vouched, 256)
+        assert second.read_new_block(new).__dict__ == second.read_either_block(new).__dict__ == vouched.__dict__
+        assert second.read_block(old).__dict__ == second.read_either_block(old).__dict__ == table.__dict__
+        assert second.renew(old, number, 256) == new and second.revert(new, 256) == old
+        without = second.renew(second.revert(new, 256), 0, 256)
+        assert second.read_new_block(without).__dict__ == table.__dict__ and (without == new) == (number == 0)
+        assert len(without) == len(old) + 2 and without[2:] == old == new[-len(old):]
+
+
+def refusal_of(read, *given):
+    """Its number and place, or None."""
+    try:
+        read(*given)
+    except second.Refused as refused:
+        return refused.number, refused.place
+    return None
+
+
+def test_each_table_has_one_new_block():
+    """Of all short blocks of some bytes: one that is read is the one that is written, and no other form reads it."""
+    read_as_new = read_as_old = 0
+    for size in range(6):
+        for block in map(bytes, itertools.product((0x00, 0x01, 0x02, 0x03, 0x0C, 0x0D, 0x7F, 0x80, 0x8D), repeat=size)):
+            as_new, as_old = refusal_of(second.read_new_block, block), refusal_of(second.read_block, block)
+            assert refusal_of(second.revert, block, 256) == as_new and refusal_of(second.renew, block, 0, 256) == as_old
+            if as_new is None:
+                read_as_new += 1
+                assert as_old == (second.TABLE, 0)
+                assert second.write_new_block(second.read_new_block(block), size) == block
+            if as_old is None:
+                read_as_old += 1
+                assert as_new == (second.TABLE, 0)
+                assert second.write_block(second.read_block(block), size) == block
+    assert read_as_new > 100 and read_as_old > 50, (read_as_new, read_as_old)
+
+
 def expect_own_pairs(table, scale, instants):
     """Each comes back, and a later one has a later pair, so that none is shared."""
     before = (0.0, 0.0)
@@ -1320,6 +1565,23 @@ def test_pairs_of_random_lines():
                 if Fraction(fraction) * length % 1 == Fraction(1, 2):
                     ties.add(length)
     assert lengths == ties == {86_399_000_000, 86_400_000_000, 86_401_000_000}
+
+
+def test_blocks_of_random_lines():
+    """Random lines meet each refusal of the calls of new blocks, and of a move the one of a month too."""
+    found = {b'read_new_block': set(), b'write_new_block': set(), b'renew': set(), b'revert': set()}
+    table, months_refused = generate.BULLETIN, 0
+    for line in generate.random_lines(6, 8_000):
+        name, *words = line.encode('latin-1').split(b' ')
+        answer, table = second.answer_line(table, line.encode('latin-1'))
+        if name in found and answer != '?':
+            found[name].add(int(answer.split()[0]))
+            if name == b'renew' and answer.startswith('11 ') and refusal_of(second.read_block, second.read_hex(words[0])) is None:
+                assert answer.startswith('11 0 0 ')
+                months_refused += 1
+    assert found == {b'read_new_block': {0, 9, 10, 11, 12}, b'write_new_block': {0, 1, 11}, b'renew': {0, 1, 9, 10, 11, 12},
+                     b'revert': {0, 1, 9, 10, 11, 12}}
+    assert months_refused > 5
 
 
 def test_marks_against_instants():

@@ -6,8 +6,8 @@ more.  Each part is mostly good, so that the later ones are reached.
 
 import second
 from desk_lines import on_one_line
-from generate import (BULLETIN, LAST_LABEL, N, PICTURES, T, WRONG_DECIMALS, Dice, is_label, label_at_step, random_block, random_label,
-                      random_table, random_text, text_of)
+from generate import (BULLETIN, LAST_LABEL, N, PICTURES, T, WRONG_DECIMALS, Dice, is_label, label_at_step, random_either_block,
+                      random_label, random_table, random_text, text_of)
 from second import UTC
 
 LONGEST, MOST = second.LONGEST_LINE_OF_TICKS, second.MOST_TICKS
@@ -28,7 +28,7 @@ def block_of(dice):
     table = random_table(dice) if kind == 'random' else dice.pick((BULLETIN, T, T, N, N))
     line = second.block_of_table(table).hex()
     if kind == 'any':
-        line = random_block(dice, table).hex()
+        line = random_either_block(dice, table).hex()
     elif kind == 'no hex':
         line = dice.pick(NO_HEX)
     elif kind == 'long':

@@ -28,7 +28,7 @@ number Ask = 8
 number Cut = 9
 -- a block's number has three groups and a mark for more, or a last group of zero after another
 number Groups = 10
--- a table is not as described, or a count of 0 or over 64, a gap of 0, a month past 96,335, a vouched month before the last entry's
+-- a table is not as described, or a count of 0 or over 64, a gap of 0, a month past 96,335, a vouched month before the last entry's; a new block that does not open with 0
 number Table = 11
 -- a byte after a block's last entry
 number Tail = 12

@@ -12,12 +12,15 @@ use Rattle.laws.proofs.Cases.{by-order}
 use Rattle.answer.specs.declared.Refusal.the-variants.{Cut as CUT, Groups as GROUPS, Table as TABLE}
 use Rattle.answer.specs.Refusals.{refusing}
 use Rattle.answer.proofs.Orders.{refusing-map}
+use Rattle.leap.specs.Leap.{lastEntryMonth, vouchedRight}
 use Rattle.leap.specs.Entries.{Entry, firstEntry}
 use Rattle.leap.specs.Outcomes.{Outcome, entered, fault, joined}
 use Rattle.block.specs.declared.NumberAnswer.{NumberAnswer}
-use Rattle.block.specs.declared.NumberAnswer.the-variants.{Number, Cut, Groups}
-use Rattle.block.specs.Faults.{marks, numberSize, numberValue, someLast, shortest, numberTests, countFine, gapFine, Fault, noFault, faultAt, faultFrom, firstFault}
-use Rattle.block.specs.Reading.{above, readGroups, readNumber, nextEntry, onNumber, readEntries, inBlock}
+use Rattle.block.specs.declared.NumberAnswer.the-variants.{Number, Bad}
+use Rattle.block.specs.declared.Form.{Form}
+use Rattle.block.specs.declared.Form.the-variants.{Old, New}
+use Rattle.block.specs.Faults.{marks, numberSize, numberValue, someLast, shortest, numberTests, within, gapFine, Fault, noFault, faultAt, monthFault, faultFrom, blockFault, vouchedFault, firstFault}
+use Rattle.block.specs.Reading.{above, readGroups, tested, readNumber, nextEntry, onNumber, lastEntry, readEntries, inBlock, inVouched, inForm}
 use Rattle.block.proofs.Numbers.{read-more, above-zero, above-number}
 
 -- ---- a number
@@ -55,24 +58,24 @@ last-group (b ∷ s) h =
     (λ l. omega (arith, value-more b s l, last-group s (rw (marks-more b s l) at h)))
 
 -- a group below a number n of one group or of more, whose last group is 0 or not
-above-cases : (low n bytes : ℕ) (one some : Bool) → (some ≡ true → n ≡ 0 → ⊥) → (some ≡ false → one ≡ true → n ≡ 0) → above low (cond (one || some) (Number n bytes) Groups) ≡ cond some (Number (n * 128 + low) (bytes + 1)) Groups
+above-cases : (low n bytes : ℕ) (one some : Bool) → (some ≡ true → n ≡ 0 → ⊥) → (some ≡ false → one ≡ true → n ≡ 0) → above low (cond (one || some) (Number n bytes) (Bad GROUPS)) ≡ cond some (Number (n * 128 + low) (bytes + 1)) (Bad GROUPS)
 above-cases low n bytes true true f g = above-number low n bytes (f refl)
 above-cases low n bytes false true f g = above-number low n bytes (f refl)
 above-cases low n bytes true false f g = above-zero low n bytes (g refl refl)
 above-cases low n bytes false false f g = refl
 
-above-number-of : (low : ℕ) (s : List ℕ) → above low (cond (shortest s) (Number (numberValue s) (numberSize s)) Groups) ≡ cond (someLast s) (Number (numberValue s * 128 + low) (suc (marks s) + 1)) Groups
+above-number-of : (low : ℕ) (s : List ℕ) → above low (cond (shortest s) (Number (numberValue s) (numberSize s)) (Bad GROUPS)) ≡ cond (someLast s) (Number (numberValue s * 128 + low) (suc (marks s) + 1)) (Bad GROUPS)
 above-number-of low s =
     above-cases low (numberValue s) (numberSize s) (eqb (marks s) 0) (someLast s)
     (λ e z. omega (arith, last-group s (ltb-true 0 _ e)))
     (λ e z. only-group s (eqb-true (marks s) 0 z) (ltb-false 0 _ e))
-    ∙ ap (λ n. cond (someLast s) (Number (numberValue s * 128 + low) n) Groups) more
+    ∙ ap (λ n. cond (someLast s) (Number (numberValue s * 128 + low) n) (Bad GROUPS)) more
   where
     more : numberSize s + 1 ≡ suc (marks s) + 1
     more = omega arith
 
 -- one group more
-one-more : (low k m n : ℕ) (x y : NumberAnswer) → above low x ≡ y → above low (cond (ltb m k) (cond (ltb m n) x Cut) Groups) ≡ cond (ltb (suc m) (suc k)) (cond (ltb (suc m) (suc n)) y Cut) Groups
+one-more : (low k m n : ℕ) (x y : NumberAnswer) → above low x ≡ y → above low (cond (ltb m k) (cond (ltb m n) x (Bad CUT)) (Bad GROUPS)) ≡ cond (ltb (suc m) (suc k)) (cond (ltb (suc m) (suc n)) y (Bad CUT)) (Bad GROUPS)
 one-more low k m n x y e =
     by-order m k
     (λ p.
@@ -83,7 +86,7 @@ one-more low k m n x y e =
 
 -- what is read as a number of at most k groups
 abbrev judged : ℕ → List ℕ → NumberAnswer
-judged k s = cond (ltb (marks s) k) (cond (ltb (marks s) (length s)) (cond (shortest s) (Number (numberValue s) (numberSize s)) Groups) Cut) Groups
+judged k s = cond (ltb (marks s) k) (cond (ltb (marks s) (length s)) (cond (shortest s) (Number (numberValue s) (numberSize s)) (Bad GROUPS)) (Bad CUT)) (Bad GROUPS)
 
 read-is : (k : ℕ) (s : List ℕ) → readGroups k s ≡ judged k s
 unfolding readGroups marks
@@ -98,40 +101,58 @@ read-is (suc k) (b ∷ s) =
 
 -- the fault of what was read
 abbrev pub faultOf : Outcome → Fault
-faultOf (entered es) = noFault
+faultOf (entered v es) = noFault
 faultOf (fault why at) = faultAt why at
 
 fault-after : (es : List Entry) (o : Outcome) → faultOf (joined es o) ≡ faultOf o
-fault-after es (entered fs) = refl
+fault-after es (entered v fs) = refl
 fault-after es (fault why at) = refl
 
 -- a number's tests, in their order
-on-tests : (at : ℕ) (fine : ℕ → Bool) (follows : ℕ → ℕ → Outcome) (s : List ℕ) → onNumber at fine follows (readNumber s) ≡ refusing (λ why. fault why at) (numberTests fine s) (follows (numberValue s) (numberSize s))
-on-tests at fine follows s = ap (onNumber at fine follows) (read-is 3 s) ∙ go (ltb (marks s) 3) (ltb (marks s) (length s)) (shortest s)
+on-tests : (at : ℕ) (fine : ℕ → Bool) (follows : ℕ → ℕ → Outcome) (s : List ℕ) → onNumber at follows (readNumber fine s) ≡ refusing (λ why. fault why at) (numberTests fine s) (follows (numberValue s) (numberSize s))
+on-tests at fine follows s = ap (λ r. onNumber at follows (tested fine r)) (read-is 3 s) ∙ go (ltb (marks s) 3) (ltb (marks s) (length s)) (shortest s) (fine (numberValue s)) refl
   where
-    go : (a b c : Bool) → onNumber at fine follows (cond a (cond b (cond c (Number (numberValue s) (numberSize s)) Groups) Cut) Groups)
-        ≡ cond a (cond b (cond c (cond (fine (numberValue s)) (follows (numberValue s) (numberSize s)) (fault TABLE at)) (fault GROUPS at)) (fault CUT at)) (fault GROUPS at)
-    go true true true = refl
-    go true true false = refl
-    go true false c = refl
-    go false b c = refl
+    go : (a b c d : Bool) → fine (numberValue s) ≡ d → onNumber at follows (tested fine (cond a (cond b (cond c (Number (numberValue s) (numberSize s)) (Bad GROUPS)) (Bad CUT)) (Bad GROUPS)))
+        ≡ cond a (cond b (cond c (cond d (follows (numberValue s) (numberSize s)) (fault TABLE at)) (fault GROUPS at)) (fault CUT at)) (fault GROUPS at)
+    go true true true true e = rw e
+    go true true true false e = rw e
+    go true true false d e = refl
+    go true false c d e = refl
+    go false b c d e = refl
 
 -- the fault of what follows a number is that of what follows it here
 number-fault : (at : ℕ) (fine : ℕ → Bool) (follows : ℕ → ℕ → Outcome) (s : List ℕ) {f : Fault} → faultOf (follows (numberValue s) (numberSize s)) ≡ f
-    → faultOf (onNumber at fine follows (readNumber s)) ≡ refusing (λ why. faultAt why at) (numberTests fine s) f
+    → faultOf (onNumber at follows (readNumber fine s)) ≡ refusing (λ why. faultAt why at) (numberTests fine s) f
 number-fault at fine follows s e =
     ap faultOf (on-tests at fine follows s)
     ∙ refusing-map faultOf (λ why. fault why at) (numberTests fine s) (follows (numberValue s) (numberSize s))
     ∙ ap (refusing (λ why. faultAt why at) (numberTests fine s)) e
 
-entries-fault : (left : ℕ) (e : Entry) (at : ℕ) (s : List ℕ) → faultOf (readEntries left e at s) ≡ faultFrom left (e .0) at s
-unfolding readEntries faultFrom
-entries-fault zero e at [] = refl
-entries-fault zero e at (b ∷ s) = rw (ne-eqb (suc (length s)) 0 (omega arith))
-entries-fault (suc left) e at s =
-    number-fault at (gapFine (e .0)) (λ n k. joined (e ∷ []) (readEntries left (nextEntry e n) (at + k) (drop k s))) s
-    (fault-after (e ∷ []) (readEntries left (nextEntry e (numberValue s)) (at + numberSize s) (drop (numberSize s) s)) ∙ entries-fault left (nextEntry e (numberValue s)) (at + numberSize s) (drop (numberSize s) s))
+last-fault : (v : ℕ) (e : Entry) → faultOf (lastEntry v e) ≡ monthFault (e .0) v
+last-fault v e = go (vouchedRight (e .0) v)
+  where
+    go : (b : Bool) → faultOf (cond b (entered v (e ∷ [])) (fault TABLE 1)) ≡ cond b noFault (faultAt TABLE 1)
+    go true = refl
+    go false = refl
 
-pub block-fault : (s : List ℕ) → faultOf (inBlock s) ≡ firstFault s
-unfolding inBlock firstFault
-block-fault s = number-fault 0 countFine (λ n k. readEntries (n - 1) firstEntry k (drop k s)) s (entries-fault (numberValue s - 1) firstEntry (numberSize s) (drop (numberSize s) s))
+entries-fault : (v left : ℕ) (e : Entry) (at : ℕ) (s : List ℕ) → faultOf (readEntries v left e at s) ≡ faultFrom v left (e .0) at s
+unfolding readEntries faultFrom
+entries-fault v zero e at [] = last-fault v e
+entries-fault v zero e at (b ∷ s) = rw (ne-eqb (suc (length s)) 0 (omega arith))
+entries-fault v (suc left) e at s =
+    number-fault at (gapFine (e .0)) (λ n k. joined (e ∷ []) (readEntries v left (nextEntry e n) (at + k) (drop k s))) s
+    (fault-after (e ∷ []) (readEntries v left (nextEntry e (numberValue s)) (at + numberSize s) (drop (numberSize s) s)) ∙ entries-fault v left (nextEntry e (numberValue s)) (at + numberSize s) (drop (numberSize s) s))
+
+block-fault : (v at : ℕ) (s : List ℕ) → faultOf (inBlock v at s) ≡ blockFault v at s
+unfolding inBlock blockFault
+block-fault v at s =
+    number-fault at (within 1 64) (λ n k. readEntries v (n - 1) firstEntry (at + k) (drop k s)) s (entries-fault v (numberValue s - 1) firstEntry (at + numberSize s) (drop (numberSize s) s))
+
+vouched-fault : (s : List ℕ) → faultOf (inVouched s) ≡ vouchedFault s
+unfolding inVouched vouchedFault
+vouched-fault s =
+    number-fault 1 (within 0 (lastEntryMonth + 1)) (λ v k. inBlock v (1 + k) (drop k s)) s (block-fault (numberValue s) (1 + numberSize s) (drop (numberSize s) s))
+
+pub form-fault : (form : Form) (s : List ℕ) → faultOf (inForm form s) ≡ firstFault form s
+form-fault Old s = block-fault 0 0 s
+form-fault New s = number-fault 0 (within 0 0) (λ n k. inVouched (drop 1 s)) s (vouched-fault (drop 1 s))

@@ -4,5 +4,7 @@ pub mod Steps
 pub mod Blocks
 pub mod Reading
 pub mod Faults
+pub mod Held
 pub mod Promise
+pub mod Moving
 pub mod Desk

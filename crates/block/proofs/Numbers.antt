@@ -3,6 +3,7 @@
 use Prim.Native.Nat.{ℕ, zero, suc, _+_, _-_, _*_, _/_, _%_, _^_, _<_, _≤_}
 use mathlib.Core.Path.{_≡_, refl, sym, ap, ap₂, _∙_}
 use mathlib.Core.List.{List, [], _∷_, _++_}
+use mathlib.Core.Bool.{Bool, true}
 use native.Mathlib.Omega.{arith}
 use native.Mathlib.Nat.{pow-suc, one-le-pow}
 use native.Mathlib.Numerals.{add-one}
@@ -10,12 +11,13 @@ use lib.ListN.{length, drop, getD, drop-of-length-le}
 use lib.Seq.{drop-cons}
 use lib.Dec.{eqb, lit<}
 use borrow.Author.Tests.{lt-ltb, le-ltb, eqb-false, ne-eqb}
-use Rattle.laws.proofs.Cases.{by-test, by-order}
+use Rattle.laws.proofs.Cases.{by-test, by-order, chosen}
+use Rattle.answer.specs.declared.Refusal.the-variants.{Cut as CUT, Groups as GROUPS}
 use Rattle.block.specs.declared.NumberAnswer.{NumberAnswer}
-use Rattle.block.specs.declared.NumberAnswer.the-variants.{Number, Cut, Groups}
+use Rattle.block.specs.declared.NumberAnswer.the-variants.{Number, Bad}
 use Rattle.block.specs.Promise.{Bytes}
 use Rattle.block.specs.Numbers.{groupsOf, numberBytes}
-use Rattle.block.specs.Reading.{above, readGroups}
+use Rattle.block.specs.Reading.{above, readGroups, tested}
 
 -- ---- a number of one group, and of more
 
@@ -35,7 +37,7 @@ pub read-more : (k b : ℕ) (s : List ℕ) → 128 ≤ b → readGroups (suc k) 
 unfolding readGroups
 read-more k b s h = rw (le-ltb b 128 h)
 
-pub above-zero : (low high size : ℕ) → high ≡ 0 → above low (Number high size) ≡ Groups
+pub above-zero : (low high size : ℕ) → high ≡ 0 → above low (Number high size) ≡ Bad GROUPS
 above-zero low high size h = rw h
 
 pub above-number : (low high size : ℕ) → (high ≡ 0 → ⊥) → above low (Number high size) ≡ Number (high * 128 + low) (size + 1)
@@ -74,14 +76,22 @@ begins k b s n size e =
     go : 128 ≤ b → (r : NumberAnswer) → readGroups k s ≡ r → above (b % 128) r ≡ Number n size → Begins k b s n size
     go l (Number high part) q f =
         by-test (eqb high 0)
-        (λ t. let g : Groups ≡ Number n size = rw t at f in let z : _≡_ {A = ℕ} 0 1 = cc in absurd (omega arith))
+        (λ t. let g : Bad GROUPS ≡ Number n size = rw t at f in let z : _≡_ {A = ℕ} 0 1 = cc in absurd (omega arith))
         (λ t. let z = eqb-false high 0 t in same (sym (above-number (b % 128) high part z) ∙ f) (below l q z))
-    go l Cut q f = let z : _≡_ {A = ℕ} 0 1 = cc in absurd (omega arith)
-    go l Groups q f = let z : _≡_ {A = ℕ} 0 1 = cc in absurd (omega arith)
+    go l (Bad why) q f = let z : _≡_ {A = ℕ} 0 1 = cc in absurd (omega arith)
+
+-- the number 0 is the byte 0
+pub zero-byte : (k b : ℕ) (s : List ℕ) {n size : ℕ} → readGroups (suc k) (b ∷ s) ≡ Number n size → n ≡ 0 → b ≡ 0
+zero-byte k b s {n} {size} e z = go (begins k b s n size e) z
+  where
+    go : {n size : ℕ} → Begins k b s n size → n ≡ 0 → b ≡ 0
+    go (only l) z = z
+    go (below l q some) z = absurd (some (omega arith))
 
 -- a number that is read is of at most k groups, and within the list
 pub record Within (k : ℕ) (s : List ℕ) (n size : ℕ) : Type 0 where
   pub small : n < 128 ^ k
+  pub some : 1 ≤ size
   pub few : size ≤ k
   pub inside : size ≤ length s
 
@@ -92,8 +102,16 @@ read-within (suc k) [] n size e = let z : _≡_ {A = ℕ} 0 1 = cc in absurd (om
 read-within (suc k) (b ∷ s) n size e = go (begins k b s n size e) (read-within k s)
   where
     go : {n size : ℕ} → Begins k b s n size → ((n size : ℕ) → readGroups k s ≡ Number n size → Within k s n size) → Within (suc k) (b ∷ s) n size
-    go (only l) ih = record { small = omega (arith, pow-suc 128 k, one-le-pow k 128 (lit< tt)); few = omega arith; inside = omega arith }
-    go (below l q z) ih = let w = ih _ _ q in record { small = omega (arith, pow-suc 128 k); few = omega arith; inside = omega arith }
+    go (only l) ih = record { small = omega (arith, pow-suc 128 k, one-le-pow k 128 (lit< tt)); some = omega arith; few = omega arith; inside = omega arith }
+    go (below l q z) ih = let w = ih _ _ q in record { small = omega (arith, pow-suc 128 k); some = omega arith; few = omega arith; inside = omega arith }
+
+-- ---- a number that is tested
+
+pub was-tested : (fine : ℕ → Bool) (r : NumberAnswer) {n size : ℕ} → tested fine r ≡ Number n size → (r ≡ Number n size) × (fine n ≡ true)
+was-tested fine (Number m part) {n} {size} e =
+    let q = chosen (fine m) (λ f. let z : _≡_ {A = ℕ} 0 1 = cc in absurd (omega arith)) e in
+    let f : m ≡ n = let g = q .1 in cc in (q .1, rw (← f) (q .0))
+was-tested fine (Bad why) e = let z : _≡_ {A = ℕ} 0 1 = cc in absurd (omega arith)
 
 -- what is read is written so, with the size that is given
 pub record Reads (k : ℕ) (s : List ℕ) (n size : ℕ) : Type 0 where
@@ -156,12 +174,12 @@ number-size n = (some-group 2 n, most 3 n)
 -- ---- a number at a place of a list, as the code reads it
 
 module _ (s : List ℕ) (at k : ℕ) where
-  pub at-none : k ≡ 0 → readGroups k (drop at s) ≡ Groups
+  pub at-none : k ≡ 0 → readGroups k (drop at s) ≡ Bad GROUPS
   unfolding readGroups
   at-none e = rw e
 
   module _ (z : k ≡ 0 → ⊥) where
-    pub at-end : length s ≤ at → readGroups k (drop at s) ≡ Cut
+    pub at-end : length s ≤ at → readGroups k (drop at s) ≡ Bad CUT
     unfolding readGroups
     at-end h =
         let e : k ≡ suc (k - 1) = omega arith in

@@ -1,207 +1,172 @@
--- What is promised of blocks: they match accepted tables one to one, and what reading and writing answers.
+-- What is promised of blocks: in each form they match the tables that it holds one to one, what reading and writing answers, and that the forms are told apart.
 -- Assumes nothing.
-use Prim.Native.Nat.{ℕ, zero, suc, _+_, _-_, _/_}
+use Prim.Native.Nat.{ℕ, _<_}
 use mathlib.Core.Path.{_≡_, refl, sym, ap, ap₂, subst, _∙_}
+use mathlib.Core.Logic.{_⊎_, inl, inr, ⊎-elim}
 use mathlib.Core.List.{List, [], _∷_, _++_}
-use mathlib.Core.Bool.{Bool, true}
+use mathlib.Core.Bool.{true}
 use native.Mathlib.Omega.{arith}
-use lib.ListN.{length, drop}
-use lib.Seq.{drop-append-seam, getD-drop}
+use lib.ListN.{length}
 use lib.Dec.{eqb, lit<}
-use borrow.Author.Tests.{lt-ltb, le-leb, eqb-true}
-use Rattle.laws.proofs.Cases.{by-test, join}
+use borrow.Author.Tests.{lt-leb, le-leb, ne-eqb, eqb-true, eqb-false}
+use Rattle.laws.proofs.Cases.{by-test}
 use Rattle.answer.specs.declared.Refusal.{Refusal}
+use Rattle.answer.specs.declared.Refusal.the-variants.{Table as TABLE}
 use Rattle.answer.specs.Refusals.{number}
 use Rattle.answer.proofs.Orders.{number-some, numbers-differ}
 use Rattle.answer.proofs.Promise.{writer}
 use Rattle.leap.specs.declared.Table.{Table}
-use Rattle.leap.specs.Leap.{lastEntryMonth}
-use Rattle.leap.specs.Entries.{Entry, firstEntry, entriesFrom, entries, tableOf, Good}
+use Rattle.leap.specs.Leap.{vouchedTo, withoutMonth, accepted}
+use Rattle.leap.specs.Entries.{Entry, entries, tableOf, FullLength, Good}
 use Rattle.leap.specs.Readers.{noTable, tableResults}
-use Rattle.leap.specs.Outcomes.{Outcome, entered, fault, joined, tableRead}
-use Rattle.leap.proofs.Facts.{Later, same-entry, accepted-to}
-use Rattle.leap.proofs.Entries.{Follow, from-long, entries-of, table-is, accepted-entries, accepted-of}
+use Rattle.leap.specs.Outcomes.{Outcome, entered, fault, tableRead}
+use Rattle.leap.proofs.Facts.{accepted-to}
+use Rattle.leap.proofs.Vouched.{without-month}
+use Rattle.leap.proofs.Entries.{entries-same, table-is}
 use Rattle.leap.proofs.Readers.{was-entered}
-use Rattle.block.specs.declared.NumberAnswer.{NumberAnswer}
-use Rattle.block.specs.declared.NumberAnswer.the-variants.{Number, Cut, Groups}
+use Rattle.block.specs.declared.NumberAnswer.the-variants.{Number}
+use Rattle.block.specs.declared.Form.{Form}
+use Rattle.block.specs.declared.Form.the-variants.{Old, New}
 use Rattle.block.specs.Numbers.{numberBytes}
-use Rattle.block.specs.Blocks.{stepNumber, stepBytes, blockOf, blockTests}
-use Rattle.block.specs.Faults.{countFine, gapFine, noFault, faultAt}
-use Rattle.block.specs.Reading.{readNumber, nextEntry, onNumber, readEntries, inBlock, readBlock}
-use Rattle.block.specs.Promise.{Bytes, GivesTable, OneToOne, ReadsBlock, WritesBlock, Blocks}
-use Rattle.block.proofs.Numbers.{read-written, written-read, bytes-append, bytes-groups}
-use Rattle.block.proofs.Steps.{bit-small, next-bit, next-back, next-apart}
-use Rattle.block.proofs.Reading.{count-fine, gap-fine}
-use Rattle.block.proofs.Blocks.{block-same, step-small}
-use Rattle.block.proofs.Faults.{faultOf, block-fault}
+use Rattle.block.specs.Blocks.{stepNumber, stepBytes, blockOf, opening, blockIn, blockTests}
+use Rattle.block.specs.Faults.{within, noFault, faultAt, firstFault}
+use Rattle.block.specs.Reading.{readGroups, inBlock, inVouched, inForm, readIn, formOf}
+use Rattle.block.specs.Promise.{Bytes, GivesTable, Held, OneToOne, ReadsBlock, WritesBlock, Apart, TheCalls, Blocks}
+use Rattle.block.proofs.Numbers.{read-written, zero-byte, bytes-append, bytes-groups}
+use Rattle.block.proofs.Reading.{within-is}
+use Rattle.block.proofs.Blocks.{block-same}
+use Rattle.block.proofs.Faults.{faultOf, form-fault}
+use Rattle.block.proofs.Held.{opened, form-back, not-entered, was-number, BlockIs, form-only}
 
--- ---- what is written is read back
+-- ---- one to one
 
--- the number of an entry gives it back
-module _ {e f : Entry} (l : Later e f) where
-  gap : stepNumber e f / 2 ≡ f .0 - e .0
-  gap = omega (arith, bit-small (e .1) (f .1))
-
-  step-fine : gapFine (e .0) (stepNumber e f) ≡ true
-  step-fine = join (lt-ltb 0 (stepNumber e f / 2) (omega (arith, gap, l .rises))) (le-leb (e .0 + stepNumber e f / 2) lastEntryMonth (omega (arith, gap, l .rises, l .early)))
-
-  step-gives : nextEntry e (stepNumber e f) ≡ f
-  step-gives = same-entry (omega (arith, gap, l .rises)) (next-back (e .1) (f .1) (f .0 - e .0) (l .step))
-
-entries-back : (e : Entry) (es : List Entry) (at : ℕ) → Follow e es → readEntries (length es) e at (stepBytes (e ∷ es)) ≡ entered (e ∷ es)
-unfolding readEntries stepBytes
-entries-back e [] at h = refl
-entries-back e (f ∷ es) at h =
-    let n = stepNumber e f in
-    let rest = stepBytes (f ∷ es) in
-    rw (read-written 2 n rest (step-small (h .0)), step-fine (h .0), drop-append-seam (numberBytes n) rest, step-gives (h .0))
-    (ap (joined (e ∷ [])) (entries-back f es (at + length (numberBytes n)) (h .1)))
-
-block-back : (t : Table) → Good t → inBlock (blockOf t) ≡ entered (entries t)
-unfolding inBlock blockOf
-block-back t g =
-    let a = accepted-to t (g .is-accepted) in
-    let n = t .count in
-    let es = entriesFrom t 1 (n - 1) in
-    let all = accepted-entries a in
-    rw (read-written 2 n (stepBytes (entries t)) (omega (arith, a .few)), lt-ltb 0 n (a .some-entry), le-leb n 64 (a .few), drop-append-seam (numberBytes n) (stepBytes (entries t)))
-    (rw (all .0) (ap (λ k. readEntries k firstEntry (length (numberBytes n)) (stepBytes (firstEntry ∷ es))) (sym (from-long t 1 (n - 1))) ∙ entries-back firstEntry es (length (numberBytes n)) (all .1)))
-
--- ---- only what is written is read
-
--- where entries are found, a number was read, its own test passed, and they are what follows
-data Numbered (fine : ℕ → Bool) (follows : ℕ → ℕ → Outcome) (es : List Entry) : NumberAnswer → Type 0 where
-  numbered : (n size : ℕ) → fine n ≡ true → follows n size ≡ entered es → Numbered fine follows es (Number n size)
-
-was-number : (at : ℕ) (fine : ℕ → Bool) (follows : ℕ → ℕ → Outcome) (es : List Entry) (r : NumberAnswer) → onNumber at fine follows r ≡ entered es → Numbered fine follows es r
-was-number at fine follows es Cut e = let z : _≡_ {A = ℕ} 0 1 = cc in absurd (omega arith)
-was-number at fine follows es Groups e = let z : _≡_ {A = ℕ} 0 1 = cc in absurd (omega arith)
-was-number at fine follows es (Number n size) e =
-    by-test (fine n) (λ f. numbered n size f (rw f at e)) (λ f. let q = rw f at e in let z : _≡_ {A = ℕ} 0 1 = cc in absurd (omega arith))
-
-was-after : (e : Entry) (o : Outcome) (es : List Entry) → joined (e ∷ []) o ≡ entered es → (fs : List Entry) × (o ≡ entered fs) × (es ≡ e ∷ fs)
-was-after e (entered fs) es q = (fs, refl, cc)
-was-after e (fault why at) es q = let z : _≡_ {A = ℕ} 0 1 = cc in absurd (omega arith)
-
-bytes-drop : (k : ℕ) (s : List ℕ) → Bytes s → Bytes (drop k s)
-bytes-drop k s h i = rw (getD-drop k s i 0) (h (k + i))
-
--- es was read from s: the entry e, and after it as many as were to be read
-record Made (left : ℕ) (e : Entry) (s : List ℕ) (es : List Entry) : Type 0 where
-  rest : List Entry
-  all : es ≡ e ∷ rest
-  sized : length rest ≡ left
-  follow : Follow e rest
-  bytes : stepBytes (e ∷ rest) ≡ s
-
--- an entry that a number gives has that number
-module _ (e : Entry) (n : ℕ) where
-  step-is : stepNumber e (nextEntry e n) ≡ n
-  step-is = omega (arith, next-bit (e .1) n)
-
-  later-is : gapFine (e .0) n ≡ true → Later e (nextEntry e n)
-  later-is g = let b = gap-fine (e .0) n g in record { rises = omega arith; early = b .1; step = next-apart (e .1) n }
-
-made-none : (e : Entry) (s : List ℕ) {es : List Entry} → length s ≡ 0 → entered (e ∷ []) ≡ entered es → Made 0 e s es
-unfolding stepBytes
-made-none e [] z q = record { rest = []; all = cc; sized = refl; follow = tt; bytes = refl }
-made-none e (x ∷ s) z q = absurd (omega arith)
-
-made-more : {left n size : ℕ} {e : Entry} {s : List ℕ} {es fs : List Entry} → Bytes s → readNumber s ≡ Number n size → gapFine (e .0) n ≡ true
-    → es ≡ e ∷ fs → Made left (nextEntry e n) (drop size s) fs → Made (suc left) e s es
-unfolding stepBytes
-made-more {left} {n} {size} {e} {s} h q g all m = record {
-  rest = nextEntry e n ∷ m .rest;
-  all = all ∙ ap (λ x. e ∷ x) (m .all);
-  sized = ap suc (m .sized);
-  follow = (later-is e n g, m .follow);
-  bytes = ap₂ (λ x y. numberBytes x ++ y) (step-is e n) (m .bytes) ∙ sym (written-read 3 s n size h q .written);
-}
-
-entries-only : (left : ℕ) (e : Entry) (at : ℕ) (s : List ℕ) (es : List Entry) → Bytes s → readEntries left e at s ≡ entered es → Made left e s es
-unfolding readEntries
-entries-only zero e at s es h q =
-    by-test (eqb (length s) 0) (λ b. made-none e s (eqb-true _ _ b) (rw b at q)) (λ b. let f = rw b at q in let z : _≡_ {A = ℕ} 0 1 = cc in absurd (omega arith))
-entries-only (suc left) e at s es h q =
-    go refl (was-number at (gapFine (e .0)) rest es (readNumber s) q) (λ n size. entries-only left (nextEntry e n) (at + size) (drop size s))
-  where
-    rest : ℕ → ℕ → Outcome
-    rest n size = joined (e ∷ []) (readEntries left (nextEntry e n) (at + size) (drop size s))
-
-    go : {r : NumberAnswer} → readNumber s ≡ r → Numbered (gapFine (e .0)) rest es r
-        → ((n size : ℕ) (fs : List Entry) → Bytes (drop size s) → readEntries left (nextEntry e n) (at + size) (drop size s) ≡ entered fs → Made left (nextEntry e n) (drop size s) fs) → Made (suc left) e s es
-    go q (numbered n size g f) ih = let w = was-after e _ es f in made-more h q g (w .2) (ih n size (w .0) (bytes-drop size s h) (w .1))
-
--- a block of n entries is that of their table
-count-only : {n size : ℕ} {s : List ℕ} {es : List Entry} → Bytes s → readNumber s ≡ Number n size → countFine n ≡ true → Made (n - 1) firstEntry (drop size s) es → Good (tableOf es) × (blockOf (tableOf es) ≡ s)
-unfolding blockOf tableOf
-count-only {n} {size} {s} {es} h q g m =
-    let b = count-fine n g in
-    let c : length es ≡ n = ap length (m .all) ∙ omega (arith, m .sized) in (
-      rw (m .all) (accepted-of (m .rest) (omega (arith, m .sized)) (m .follow)),
-      ap₂ (λ x y. numberBytes x ++ y) c (ap stepBytes (entries-of es ∙ m .all) ∙ m .bytes) ∙ sym (written-read 3 s n size h q .written),
-    )
-
-held-is : (s : List ℕ) (es : List Entry) → Bytes s → inBlock s ≡ entered es → Good (tableOf es) × (blockOf (tableOf es) ≡ s)
-unfolding inBlock
-held-is s es h e = go refl (was-number 0 countFine rest es (readNumber s) e)
-  where
-    rest : ℕ → ℕ → Outcome
-    rest n size = readEntries (n - 1) firstEntry size (drop size s)
-
-    go : {r : NumberAnswer} → readNumber s ≡ r → Numbered countFine rest es r → Good (tableOf es) × (blockOf (tableOf es) ≡ s)
-    go q (numbered n size g e) = count-only h q g (entries-only (n - 1) firstEntry size (drop size s) es (bytes-drop size s h) e)
-
--- ---- the promise
-
+-- a block is bytes
 steps-bytes : (es : List Entry) → Bytes (stepBytes es)
 unfolding stepBytes
 steps-bytes [] = λ i. lit< tt
 steps-bytes (e ∷ []) = λ i. lit< tt
 steps-bytes (e ∷ f ∷ es) = bytes-append (numberBytes (stepNumber e f)) (stepBytes (f ∷ es)) (bytes-groups 3 (stepNumber e f)) (steps-bytes (f ∷ es))
 
-block-bytes : (t : Table) → Bytes (blockOf t)
+opening-bytes : (form : Form) (v : ℕ) → Bytes (opening form v)
+opening-bytes Old v = λ i. lit< tt
+opening-bytes New v = bytes-append (numberBytes 0) (numberBytes v) (bytes-groups 3 0) (bytes-groups 3 v)
+
+block-bytes : (form : Form) (t : Table) → Bytes (blockIn form t)
 unfolding blockOf
-block-bytes t = bytes-append (numberBytes (t .count)) (stepBytes (entries t)) (bytes-groups 3 (t .count)) (steps-bytes (entries t))
+block-bytes form t = bytes-append (opening form (t .vouched)) (blockOf t) (opening-bytes form (t .vouched)) (bytes-append (numberBytes (t .count)) (stepBytes (entries t)) (bytes-groups 3 (t .count)) (steps-bytes (entries t)))
 
-block-gives : (t : Table) → Good t → GivesTable (blockOf t) t
-block-gives t g = ap (λ o. tableResults (tableRead o)) (block-back t g) ∙ ap (λ u. (0, 0, u)) (table-is g)
+-- a table that a form holds is accepted and of full length
+pub held-right : (form : Form) (t : Table) → Held form t → (accepted t ≡ true) × FullLength t
+held-right Old t g = (g .is-accepted, (g .months-long, g .offsets-long))
+held-right New t h = h
 
-given-is : (s : List ℕ) (t : Table) → Bytes s → GivesTable s t → Good t × (blockOf t ≡ s)
-given-is s t h e = let w = was-entered (inBlock s) t e in rw (w .2) at (held-is s (w .0) h (w .1))
+-- it is that of its entries under its month
+held-table : (t : Table) → (accepted t ≡ true) × FullLength t → vouchedTo (t .vouched) (tableOf (entries t)) ≡ t
+held-table t h =
+    let g : Good (withoutMonth t) = record { is-accepted = without-month t (t .vouched) (h .0); no-month = refl; months-long = h .1 .0; offsets-long = h .1 .1 } in
+    ap (λ es. vouchedTo (t .vouched) (tableOf es)) (sym (entries-same 0 t)) ∙ ap (vouchedTo (t .vouched)) (table-is g)
 
-one-table : (t u : Table) → Good t → Good u → blockOf t ≡ blockOf u → t ≡ u
-one-table t u g h e = ap (λ r. r .2) (sym (block-gives t g) ∙ ap (λ s. tableResults (readBlock s)) e ∙ block-gives u h)
+-- the same outcome is the same answer
+answered : {o p : Outcome} → o ≡ p → tableResults (tableRead o) ≡ tableResults (tableRead p)
+answered e = ap (λ o. tableResults (tableRead o)) e
 
-pub one-to-one : OneToOne
-one-to-one = record {
-  gives-the-table-of-the-block = λ s t. (λ h. given-is s t (h .0) (h .1), λ h. subst (λ r. Bytes r × GivesTable r t) (h .1) (block-bytes t, block-gives t (h .0)));
-  one-table-a-block = one-table;
-  one-block-a-table = λ r s t g h p q. sym (given-is r t g p .1) ∙ given-is s t h q .1;
-}
+module _ (form : Form) where
+  -- the block of a table gives it, and only that
+  pub block-gives : (t : Table) → Held form t → GivesTable form (blockIn form t) t
+  block-gives t h = answered (form-back form t h) ∙ ap (λ u. (0, 0, u)) (held-table t (held-right form t h))
+
+  pub given-is : (s : List ℕ) (t : Table) → Bytes s → GivesTable form s t → BlockIs form s t
+  given-is s t h e =
+      let w = was-entered (inForm form s) t e in
+      subst (BlockIs form s) (w .3) (form-only form s h (w .2))
+
+  one-table : (t u : Table) → Held form t → Held form u → blockIn form t ≡ blockIn form u → t ≡ u
+  one-table t u g h e = ap (λ r. r .2) (sym (block-gives t g) ∙ ap (λ s. tableResults (readIn form s)) e ∙ block-gives u h)
+
+  one-to-one : OneToOne form
+  one-to-one = record {
+    gives-the-table-of-the-block = λ s t. (λ h. given-is s t (h .0) (h .1), λ h. subst (λ r. Bytes r × GivesTable form r t) (h .1) (block-bytes form t, block-gives t (h .0)));
+    one-table-a-block = one-table;
+    one-block-a-table = λ r s t g h p q. sym (given-is r t g p .1) ∙ given-is s t h q .1;
+  }
+
+-- ---- reading and writing
+
+-- a fault is that of what was read
+pub was-fault : {why : Refusal} {place : ℕ} (o : Outcome) → faultOf o ≡ faultAt why place → o ≡ fault why place
+was-fault (entered v es) e = let z : _≡_ {A = ℕ} 0 1 = cc in absurd (omega arith)
+was-fault {why} {place} (fault other at) e = let f : other ≡ why = cc in let g : at ≡ place = cc in rw (f, g)
 
 -- what was read, by its fault
-pub reads : (s : List ℕ) → ReadsBlock s
-reads s = record {
-  gives-a-table = (λ g. sym (block-fault s) ∙ ap faultOf (was-entered (inBlock s) (g .0) (g .1) .1), λ e. found (inBlock s) (block-fault s ∙ e));
-  refuses = λ why place. (λ e. sym (block-fault s) ∙ refused (inBlock s) e, λ e. is-refused (inBlock s) (block-fault s ∙ e));
+reads : (form : Form) (s : List ℕ) → ReadsBlock form s
+reads form s = record {
+  gives-a-table = (λ g. sym is ∙ ap faultOf (was-entered (inForm form s) (g .0) (g .1) .2), λ e. found (inForm form s) (is ∙ e));
+  refuses = λ why place. (λ e. sym is ∙ refused (inForm form s) e, λ e. answered (was-fault (inForm form s) (is ∙ e)));
 }
   where
+    is : faultOf (inForm form s) ≡ firstFault form s
+    is = form-fault form s
+
     found : (o : Outcome) → faultOf o ≡ noFault → (t : Table) × (tableResults (tableRead o) ≡ (0, 0, t))
-    found (entered es) e = (tableOf es, refl)
+    found (entered v es) e = (vouchedTo v (tableOf es), refl)
     found (fault why at) e = let z : _≡_ {A = ℕ} 0 1 = cc in absurd (omega arith)
 
     refused : {why : Refusal} {place : ℕ} (o : Outcome) → tableResults (tableRead o) ≡ (number why, place, noTable) → faultOf o ≡ faultAt why place
-    refused {why} (entered es) e = absurd (number-some why (ap (λ x. x .0) (sym e)))
+    refused {why} (entered v es) e = absurd (number-some why (ap (λ x. x .0) (sym e)))
     refused {why} (fault other at) e = ap₂ faultAt (numbers-differ other why (ap (λ x. x .0) e)) (ap (λ x. x .1) e)
 
-    is-refused : {why : Refusal} {place : ℕ} (o : Outcome) → faultOf o ≡ faultAt why place → tableResults (tableRead o) ≡ (number why, place, noTable)
-    is-refused (entered es) e = let z : _≡_ {A = ℕ} 0 1 = cc in absurd (omega arith)
-    is-refused {why} {place} (fault other at) e = let f : other ≡ why = cc in let g : at ≡ place = cc in rw (f, g)
+pub writes : (form : Form) (t : Table) (buffer : List ℕ) → WritesBlock form t buffer
+writes form t buffer =
+    record { where-it-fits = λ a l. rw (a, le-leb (length (blockIn form t)) (length buffer) l) (refl, refl); or-nothing = writer (blockTests t) (blockIn form t) buffer .or-nothing }
 
-pub writes : (t : Table) (buffer : List ℕ) → WritesBlock t buffer
-writes t buffer =
-    record { where-it-fits = λ a l. rw (a, le-leb (length (blockOf t)) (length buffer) l) (refl, refl); or-nothing = writer (blockTests t) (blockOf t) buffer .or-nothing }
+-- ---- the two forms
+
+-- the old reader does not pass the byte 0
+old-zero : (s : List ℕ) → inForm Old (0 ∷ s) ≡ fault TABLE 0
+unfolding inBlock readGroups
+old-zero s = refl
+
+-- nor the new one another number
+new-other : (s : List ℕ) {n size : ℕ} → readGroups 3 s ≡ Number n size → 0 < n → inForm New s ≡ fault TABLE 0
+new-other s {n} e l = rw (e, le-leb 0 n (omega arith), lt-leb n 0 l)
+
+-- a form in which entries are found is that of the first number
+own-form : (form : Form) (s : List ℕ) {w : ℕ} {es : List Entry} → inForm form s ≡ entered w es → form ≡ formOf s
+unfolding readGroups
+own-form Old [] e = refl
+own-form New [] e = absurd (not-entered e)
+own-form Old (b ∷ s) e =
+    by-test (eqb b 0)
+    (λ t. absurd (not-entered (sym (old-zero s) ∙ rw (eqb-true b 0 t) at e)))
+    (λ t. rw t)
+own-form New (b ∷ s) e =
+    by-test (eqb b 0) (λ t. rw t)
+    (λ t.
+    let m = was-number 0 (within 0 0) (λ n size. inVouched s) (b ∷ s) e in
+    absurd (eqb-false b 0 t (zero-byte 2 b s (m .is-read) (omega (arith, within-is 0 0 (m .n) (m .right))))))
+
+told-apart : Apart
+unfolding blockOf
+told-apart = record {
+  old-reader = λ t. answered (ap (inForm Old) (opened (t .vouched) (blockOf t)) ∙ old-zero (numberBytes (t .vouched) ++ blockOf t));
+  new-reader = λ t g.
+      let a = accepted-to t g in
+      answered (new-other (blockOf t) (read-written 2 (t .count) (stepBytes (entries t)) (omega (arith, a .few))) (a .some-entry));
+  begins-with-0 = λ s. refl;
+  begins-otherwise = λ b s h. rw (ne-eqb b 0 h);
+  empty = refl;
+  either = λ s t. (one-of (formOf s) s t, ⊎-elim (the-own Old s t) (the-own New s t));
+}
+  where
+    one-of : (form : Form) (s : List ℕ) (t : Table) → GivesTable form s t → GivesTable Old s t ⊎ GivesTable New s t
+    one-of Old s t e = inl e
+    one-of New s t e = inr e
+
+    the-own : (form : Form) (s : List ℕ) (t : Table) → GivesTable form s t → GivesTable (formOf s) s t
+    the-own form s t e = subst (λ f. GivesTable f s t) (own-form form s (was-entered (inForm form s) t e .2)) e
+
+the-calls : TheCalls
+the-calls = record { reads-old = λ s. refl; reads-new = λ s. refl; writes-old = λ t buffer. (refl, refl); writes-new = λ t buffer. (refl, refl) }
 
 pub blocks : Blocks
-blocks = record { one-to-one = one-to-one; reads = reads; writes = writes; drops-the-month = block-same }
+blocks = record { one-to-one = one-to-one; reads = reads; writes = writes; drops-the-month = block-same; told-apart = told-apart; the-calls = the-calls }

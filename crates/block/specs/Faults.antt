@@ -1,4 +1,4 @@
--- The first fault of a block, read left to right, with the place of the first byte of the number at fault. No table is in it.
+-- The first fault of a block of either form, read left to right, with the place of the first byte of the number at fault. No table is in it.
 -- Assumes nothing.
 use Prim.Native.Nat.{ℕ, zero, suc, _+_, _-_, _*_, _/_, _%_}
 use mathlib.Core.List.{List, [], _∷_}
@@ -8,7 +8,9 @@ use lib.ListN.{length, drop, getD}
 use Rattle.answer.specs.declared.Refusal.{Refusal}
 use Rattle.answer.specs.declared.Refusal.the-variants.{Cut as CUT, Groups as GROUPS, Table as TABLE, Tail as TAIL}
 use Rattle.answer.specs.Refusals.{refusing}
-use Rattle.leap.specs.Leap.{lastEntryMonth}
+use Rattle.leap.specs.Leap.{lastEntryMonth, vouchedRight}
+use Rattle.block.specs.declared.Form.{Form}
+use Rattle.block.specs.declared.Form.the-variants.{Old, New}
 
 -- ---- the number with which bytes begin
 
@@ -38,9 +40,9 @@ shortest s = eqb (marks s) 0 || someLast s
 abbrev pub numberTests : (ℕ → Bool) → List ℕ → List (Bool × Refusal)
 numberTests fine s = (ltb (marks s) 3, GROUPS) ∷ (ltb (marks s) (length s), CUT) ∷ (shortest s, GROUPS) ∷ (fine (numberValue s), TABLE) ∷ []
 
--- a count of 1 to 64
-abbrev pub countFine : ℕ → Bool
-countFine n = ltb 0 n && leb n 64
+-- a number from the least to the most
+abbrev pub within : ℕ → ℕ → ℕ → Bool
+within least most n = leb least n && leb n most
 
 -- a gap of at least a month after this one, and no month past December 9999
 abbrev pub gapFine : ℕ → ℕ → Bool
@@ -53,14 +55,28 @@ pub data Fault : Type 0 where
   noFault : Fault
   faultAt : Refusal → ℕ → Fault
 
--- of the bytes from a place on, where the numbers of so many entries are left after one of this month; a byte after the last is TAIL
-unfoldable pub faultFrom : ℕ → ℕ → ℕ → List ℕ → Fault
-faultFrom zero month place [] = noFault
-faultFrom zero month place (byte ∷ s) = faultAt TAIL place
-faultFrom (suc left) month place s =
-    refusing (λ why. faultAt why place) (numberTests (gapFine month) s) (faultFrom left (month + numberValue s / 2) (place + numberSize s) (drop (numberSize s) s))
+-- last of all TABLE at 1, where the number v of a new block's month stands, for a month before the last entry's; an old block has v = 0, which is always right
+abbrev pub monthFault : ℕ → ℕ → Fault
+monthFault last v = cond (vouchedRight last v) noFault (faultAt TABLE 1)
 
--- of a block: its count, and then a number for each entry after the first, which is of month 0
-unfoldable pub firstFault : List ℕ → Fault
-firstFault s =
-    refusing (λ why. faultAt why 0) (numberTests countFine s) (faultFrom (numberValue s - 1) 0 (numberSize s) (drop (numberSize s) s))
+-- of the bytes from a place on, where the numbers of so many entries are left after one of this month; a byte after the last is TAIL
+unfoldable pub faultFrom : ℕ → ℕ → ℕ → ℕ → List ℕ → Fault
+faultFrom v zero month place [] = monthFault month v
+faultFrom v zero month place (byte ∷ s) = faultAt TAIL place
+faultFrom v (suc left) month place s =
+    refusing (λ why. faultAt why place) (numberTests (gapFine month) s) (faultFrom v left (month + numberValue s / 2) (place + numberSize s) (drop (numberSize s) s))
+
+-- of an old block from a place on: a count of 1 to 64, and then a number for each entry after the first, which is of month 0
+unfoldable pub blockFault : ℕ → ℕ → List ℕ → Fault
+blockFault v place s =
+    refusing (λ why. faultAt why place) (numberTests (within 1 64) s) (faultFrom v (numberValue s - 1) 0 (place + numberSize s) (drop (numberSize s) s))
+
+-- of what comes behind the number 0, which is one byte: the number of a month up to December 9999, or 0 for none, and then an old block
+unfoldable pub vouchedFault : List ℕ → Fault
+vouchedFault s =
+    refusing (λ why. faultAt why 1) (numberTests (within 0 (lastEntryMonth + 1)) s) (blockFault (numberValue s) (1 + numberSize s) (drop (numberSize s) s))
+
+-- of a block
+abbrev pub firstFault : Form → List ℕ → Fault
+firstFault Old s = blockFault 0 0 s
+firstFault New s = refusing (λ why. faultAt why 0) (numberTests (within 0 0) s) (vouchedFault (drop 1 s))

@@ -3,12 +3,12 @@ use crate::calls::INSTANT_OF;
 use crate::calls::READ_CARDS;
 use crate::calls::READ_JULIAN;
 use crate::calls::READ_TEXT;
+use crate::calls::REVERT;
 use crate::calls::STAMP_OF;
 use crate::calls::START;
 use crate::calls::TABLE;
 use crate::calls::TICK;
 use crate::calls::VOUCH;
-use crate::calls::WRITE_CARDS;
 use crate::calls::WRITE_JULIAN;
 use crate::calls::call_of;
 use crate::dates::read_julian;
@@ -51,7 +51,7 @@ fn tell_call(k: usize, line: &[u8], c: Cursor, t: Table, out: &mut [u8], at: usi
     if k <= READ_CARDS {
         return tell_reading(k, line, c, out, at);
     }
-    if k <= WRITE_CARDS {
+    if k <= REVERT {
         return tell_writer(k, line, c, t, out, at);
     }
     tell(kept(line, call(k, line, c, t)), out, at)

@@ -1,6 +1,7 @@
 // Tables taken from words and told in numbers.
 use crate::calls::READ_BLOCK;
 use crate::calls::READ_KERNEL;
+use crate::calls::READ_NEW_BLOCK;
 use crate::said::Said;
 use crate::said::kept;
 use crate::said::said_numbers;
@@ -131,15 +132,26 @@ fn places_used<'a>(months: &'a [u32; 64], offsets: &'a [i32; 64]) -> usize {
     0
 }
 
-// The refusal, the place, the count and how many pairs there are.
-fn head_numbers(a: TableAnswer, count: i64, used: i64) -> [i64; 11] {
+// NO and PLACE, and what stands behind them.
+fn head_numbers(a: TableAnswer, rest: [i64; 3]) -> [i64; 11] {
     match a {
-        TableAnswer::Read => [0, 0, count, used, 0, 0, 0, 0, 0, 0, 0],
+        TableAnswer::Read => [0, 0, rest[0], rest[1], rest[2], 0, 0, 0, 0, 0, 0],
         TableAnswer::Refused(why, place) => {
             let n = answer::number_of(why) as i64;
-            [n, whole(place), count, used, 0, 0, 0, 0, 0, 0, 0]
+            [n, whole(place), rest[0], rest[1], rest[2], 0, 0, 0, 0, 0, 0]
         }
     }
+}
+
+// NO PLACE COUNT K, with VOUCHED before the K of a new block; `used` is K, how many pairs there are.
+fn head_said(call: usize, read: TableRead, used: i64, next: Cursor) -> Said {
+    let t = read.table;
+    let count = whole(t.count);
+    let a = read.answer;
+    if call == READ_NEW_BLOCK {
+        return said_numbers(5, head_numbers(a, [count, t.vouched as i64, used]), next);
+    }
+    said_numbers(4, head_numbers(a, [count, used, 0]), next)
 }
 
 // ---- tables read
@@ -160,6 +172,7 @@ fn size(line: &[u8], f: Field) -> usize {
 fn read_bytes(call: usize, bytes: &[u8]) -> TableRead {
     match call {
         READ_BLOCK => block::read_block(bytes),
+        READ_NEW_BLOCK => block::read_new_block(bytes),
         READ_KERNEL => kernel::read_kernel(bytes),
         _ => cards::read_cards(bytes),
     }
@@ -174,19 +187,17 @@ fn read_table(call: usize, line: &[u8], c: Cursor) -> Reading {
     Reading { read, next }
 }
 
-// NO PLACE COUNT K M O ..
-fn tell_table(line: &[u8], r: Reading, out: &mut [u8], at: usize) -> usize {
+// NO PLACE COUNT K M O .., or NO PLACE COUNT VOUCHED K M O ..
+fn tell_table(call: usize, line: &[u8], r: Reading, out: &mut [u8], at: usize) -> usize {
     let read = r.read;
     let t = read.table;
     let k = places_used(&t.months, &t.offsets);
-    let answer = read.answer;
-    let numbers = head_numbers(answer, whole(t.count), whole(k));
-    let said = kept(line, said_numbers(4, numbers, r.next));
+    let said = kept(line, head_said(call, read, whole(k), r.next));
     let next = tell(said, out, at);
     tell_pairs(&t.months, &t.offsets, k, out, next)
 }
 
-// read_block HEX, read_kernel HEX, read_cards HEX
+// read_block HEX, read_new_block HEX, read_kernel HEX, read_cards HEX
 pub(crate) fn tell_reading(
     call: usize,
     line: &[u8],
@@ -195,5 +206,5 @@ pub(crate) fn tell_reading(
     at: usize,
 ) -> usize {
     let r = read_table(call, line, c);
-    tell_table(line, r, out, at)
+    tell_table(call, line, r, out, at)
 }

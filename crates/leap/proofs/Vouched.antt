@@ -39,11 +39,18 @@ beyond-is {v} m g =
 
 -- ---- what they say
 
+-- no number past that of December 9999 is right
+pub right-late : (last : ℕ) {v : ℕ} → vouchedRight last v ≡ true → v ≤ lastEntryMonth + 1
+right-late last {v} e =
+    by-order v 1
+    (λ h. omega arith)
+    (λ h. by-order last v (λ l. leb-true v 96336 (rest-right last h l ∙ e)) (λ l. absurd (true≢false (sym e ∙ sym (early-wrong last h l)))))
+
 given-right : (last month : ℕ) → vouchedRight last (month + 1) ≡ true → (last ≤ month) × (month ≤ lastEntryMonth)
 given-right last month e =
     by-order month last
     (λ h. absurd (true≢false (sym e ∙ sym (early-wrong last (omega arith) (omega arith)))))
-    (λ h. (h, omega (arith, leb-true (month + 1) 96336 (rest-right last (omega arith) (omega arith) ∙ e))))
+    (λ h. (h, omega (arith, right-late last e)))
 
 right-given : (last month : ℕ) → last ≤ month → month ≤ lastEntryMonth → vouchedRight last (month + 1) ≡ true
 right-given last month h l = sym (rest-right last (omega arith) (omega arith)) ∙ le-leb (month + 1) 96336 (omega arith)

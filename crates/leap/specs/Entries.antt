@@ -36,7 +36,11 @@ entries t = entriesFrom t 0 (t .count)
 unfoldable pub tableOf : List Entry → Table
 tableOf es = tabled (length es) (padded 0 (map (λ e. e .0) es)) (padded (pos 0) (map (λ e. e .1) es))
 
--- an accepted table for which no month is given, with 64 places for months and for offsets as every table of a program has them
+-- 64 places for months and for offsets, as every table of a program has them
+abbrev pub FullLength : Table → Type 0
+FullLength t = (length (t .months) ≡ 64) × (length (t .offsets) ≡ 64)
+
+-- an accepted table of full length for which no month is given
 pub record Good (t : Table) : Type 0 where
   pub is-accepted : accepted t ≡ true
   pub no-month : t .vouched ≡ 0

@@ -4,19 +4,20 @@ use mathlib.Core.List.{List, _++_}
 use Prim.Native.Nat.{ℕ}
 use Rattle.answer.specs.declared.Refusal.{Refusal}
 use Rattle.leap.specs.declared.TableRead.{TableRead}
+use Rattle.leap.specs.Leap.{vouchedTo}
 use Rattle.leap.specs.Entries.{Entry, tableOf}
 use Rattle.leap.specs.Readers.{found, refusedAt}
 
--- what bytes hold: the entries of a table, or a fault and its place
+-- what bytes hold: the number of the month that a table is vouched for and its entries, or a fault and its place
 pub data Outcome : Type 0 where
-  entered : List Entry → Outcome
+  entered : ℕ → List Entry → Outcome
   fault : Refusal → ℕ → Outcome
 
 -- with these entries before those that the rest holds
 abbrev pub joined : List Entry → Outcome → Outcome
-joined es (entered fs) = entered (es ++ fs)
+joined es (entered v fs) = entered v (es ++ fs)
 joined es (fault why at) = fault why at
 
 abbrev pub tableRead : Outcome → TableRead
-tableRead (entered es) = found (tableOf es)
+tableRead (entered v es) = found (vouchedTo v (tableOf es))
 tableRead (fault why at) = refusedAt why at

@@ -57,11 +57,16 @@ pub struct TableRead {
     pub table: Table,
 }
 
-pub fn found<'a>(count: usize, months: &'a [u32; 64], offsets: &'a [i32; 64]) -> TableRead
-    ensures { λ r. ⌜ r ≡ found (tabled count (now (months .entry)) (now (offsets .entry))) ⌝ }
+pub fn found<'a>(
+    count: usize,
+    months: &'a [u32; 64],
+    offsets: &'a [i32; 64],
+    vouched: u32,
+) -> TableRead
+    ensures { λ r. ⌜ r ≡ found (vouchedTo vouched (tabled count (now (months .entry)) (now (offsets .entry)))) ⌝ }
 {
     let answer = TableAnswer::Read;
-    let table = tabled(count, months, offsets, 0);
+    let table = tabled(count, months, offsets, vouched);
     TableRead { answer, table }
 }
 
@@ -144,7 +149,7 @@ fn all_right<'a>(count: usize, months: &'a [u32; 64], offsets: &'a [i32; 64]) ->
 }
 
 // A month number as a table has it, where the last entry's month is `last`.
-fn vouched_right(last: u32, vouched: u32) -> bool
+pub fn vouched_right(last: u32, vouched: u32) -> bool
     ensures { λ r. ⌜ r ≡ vouchedRight last vouched ⌝ }
 {
     if vouched < 1 {
@@ -182,7 +187,7 @@ pub fn judge<'a>(count: usize, months: &'a [u32; 64], offsets: &'a [i32; 64]) ->
     ensures { λ r. ⌜ r ≡ judged (tabled count (now (months .entry)) (now (offsets .entry))) ⌝ }
 {
     if is_accepted_in(count, months, offsets, 0) {
-        return found(count, months, offsets);
+        return found(count, months, offsets, 0);
     }
     refused_at(Refusal::Table, 0)
 }

@@ -6,19 +6,21 @@ ghost use Rattle.leap.specs.Leap.{bulletinC};
 ghost use Rattle.labels.specs.Labels.{fields};
 ghost use Rattle.stamp.specs.Marks.{instantOfMarked, stampOfMarked};
 ghost use Rattle.clock.specs.Marks.{startMarked, tickMarked};
-ghost use Rattle.block.specs.Reading.{readBlock};
+ghost use Rattle.block.specs.Reading.{readBlock, readNewBlock};
+ghost use Rattle.block.specs.Moves.{moveResults, renew, renewAfter, revert, revertAfter};
 ghost use Rattle.text.specs.Text.{writeTextAfter};
 ghost use Rattle.text.specs.Marks.{readTextMarked, writeTextMarked};
 ghost use Rattle.julian.specs.Marks.{writeJulianMarked, readJulianMarked};
 ghost use Rattle.words.specs.Words.{tableFrom, tableWords};
 ghost use Rattle.mundreff.specs.Answers.{tableNumbers, stampFields, instantWithMarks, stampWithMarks, textWithMarks, lengthWithMarks, labelWithMarks, pairWithMarks};
-ghost use Rattle.block.specs.Blocks.{writeBlock, writeBlockAfter};
+ghost use Rattle.block.specs.Blocks.{writeBlock, writeBlockAfter, writeNewBlock, writeNewBlockAfter};
 ghost use Rattle.kernel.specs.Reading.{readKernel};
 ghost use Rattle.kernel.specs.Writing.{writeKernel, writeKernelAfter};
 ghost use Rattle.cards.specs.Reading.{readCards};
 ghost use Rattle.cards.specs.Writing.{writeCards, writeCardsAfter};
 ghost use Rattle.mundreff.specs.Calls.{labelFrom, scaleFrom, readingFrom, pair};
 use answer::Written;
+use block::MoveAnswer;
 use clock::MarkedTick;
 use clock::TickAnswer;
 use julian::JulianAnswer;
@@ -234,6 +236,23 @@ fn give_table<'a>(found: TableRead, place: &'a mut usize, table: &'a mut [u32; 1
     }
 }
 
+fn give_move<'a>(a: MoveAnswer, place: &'a mut usize, length: &'a mut usize) -> u32
+    ensures { λ r. ⌜ (r, now (place .exit), now (length .exit)) ≡ moveResults a ⌝ }
+{
+    match a {
+        MoveAnswer::Moved(n) => {
+            *place = 0;
+            *length = n;
+            0
+        }
+        MoveAnswer::Refused(why, at) => {
+            *place = at;
+            *length = 0;
+            answer::number_of(why)
+        }
+    }
+}
+
 // ---- the calls
 
 #[no_mangle]
@@ -265,6 +284,56 @@ pub extern "C" fn mundreff_write_block(
     ensures { λ _. ⌜ now (out .exit) ≡ writeBlockAfter (tableFrom (now (table .entry))) (now (out .entry)) ⌝ }
 {
     give_length(block::write_block(table_of(table), out), length)
+}
+
+#[no_mangle]
+pub extern "C" fn mundreff_read_new_block<'a>(
+    block: &[u8],
+    place: &'a mut usize,
+    table: &'a mut [u32; 130],
+) -> u32
+    ensures { λ r. ⌜ (r, now (place .exit), now (table .exit)) ≡ tableNumbers (readNewBlock (now (block .entry))) ⌝ }
+{
+    give_table(block::read_new_block(block), place, table)
+}
+
+#[no_mangle]
+pub extern "C" fn mundreff_write_new_block(
+    table: &[u32; 130],
+    out: &mut [u8],
+    length: &mut usize,
+) -> u32
+    ensures { λ r. ⌜ (r, now (length .exit)) ≡ writtenResults (writeNewBlock (tableFrom (now (table .entry))) (now (out .entry))) ⌝ }
+    ensures { λ _. ⌜ now (out .exit) ≡ writeNewBlockAfter (tableFrom (now (table .entry))) (now (out .entry)) ⌝ }
+{
+    give_length(block::write_new_block(table_of(table), out), length)
+}
+
+#[no_mangle]
+pub extern "C" fn mundreff_renew<'a>(
+    block: &[u8],
+    vouched: u32,
+    out: &mut [u8],
+    place: &'a mut usize,
+    length: &'a mut usize,
+) -> u32
+    ensures { λ r. ⌜ (r, now (place .exit), now (length .exit)) ≡ moveResults (renew (now (block .entry)) vouched (now (out .entry))) ⌝ }
+    ensures { λ _. ⌜ now (out .exit) ≡ renewAfter (now (block .entry)) vouched (now (out .entry)) ⌝ }
+{
+    give_move(block::renew(block, vouched, out), place, length)
+}
+
+#[no_mangle]
+pub extern "C" fn mundreff_revert<'a>(
+    block: &[u8],
+    out: &mut [u8],
+    place: &'a mut usize,
+    length: &'a mut usize,
+) -> u32
+    ensures { λ r. ⌜ (r, now (place .exit), now (length .exit)) ≡ moveResults (revert (now (block .entry)) (now (out .entry))) ⌝ }
+    ensures { λ _. ⌜ now (out .exit) ≡ revertAfter (now (block .entry)) (now (out .entry)) ⌝ }
+{
+    give_move(block::revert(block, out), place, length)
 }
 
 #[no_mangle]

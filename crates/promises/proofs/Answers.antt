@@ -15,9 +15,9 @@ answers =
       table-and-words = undone;
       stamp-and-numbers = λ z. (refl, refl);
       label-and-numbers = λ l. refl;
-      zero-in-the-rest = λ why. record { writing = refl; an-instant = refl; a-stamp = refl; a-label = refl; a-text = refl; a-pair = refl; a-block = λ place. refl; a-block-in-c = λ place. refl };
+      zero-in-the-rest = λ why. record { writing = refl; an-instant = refl; a-stamp = refl; a-label = refl; a-text = refl; a-pair = refl; a-block = λ place. refl; a-move = λ place. refl; a-block-in-c = λ place. refl };
       success-as-it-is =
-          record { writing = λ n. refl; an-instant = λ x. refl; a-stamp = λ z. refl; a-label = λ l. refl; a-text = λ x z. refl; a-pair = λ p. refl; a-block = λ t. refl };
+          record { writing = λ n. refl; an-instant = λ x. refl; a-stamp = λ z. refl; a-label = λ l. refl; a-text = λ x z. refl; a-pair = λ p. refl; a-block = λ t. refl; a-move = λ n. refl };
       in-a-row = record { a-stamp = λ z. refl; a-label = λ l. refl; a-text = λ x z. refl; a-pair = λ p. refl };
       marks-behind = λ b. record { an-instant = λ a. refl; a-stamp = λ a. refl; a-text = λ a. refl; writing-text = λ a. refl; a-label = λ a. refl; a-pair = λ a. refl };
       beyond-is-one = (refl, refl);

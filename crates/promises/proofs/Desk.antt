@@ -1,6 +1,6 @@
 -- Both instants, by the ticks of the clock and by what the labels show; a difference of two; what the desk answers of them; and the answer to any line.
 -- Assumes nothing.
-use mathlib.Core.Logic.{_⊎_, inl, inr}
+use mathlib.Core.Logic.{_⊎_, inl, inr, ⊎-elim}
 use mathlib.Core.Path.{_≡_, refl, sym, ap, _∙_}
 use mathlib.Core.Bool.{Bool, true, false, _||_}
 use mathlib.Core.List.{List, [], _∷_, _++_}
@@ -36,7 +36,8 @@ use Rattle.text.specs.declared.TextAnswer.the-variants.{Read as StampRead}
 use Rattle.text.specs.Text.{readText, textResults}
 use Rattle.text.specs.Promise.{AcceptedAs, Names}
 use Rattle.text.proofs.Exactly.{read-exactly}
-use Rattle.block.specs.Reading.{readBlock}
+use Rattle.block.specs.declared.Form.the-variants.{Old, New}
+use Rattle.block.specs.Reading.{readEither}
 use Rattle.block.specs.Promise.{Bytes}
 use Rattle.block.proofs.Promise.{blocks}
 use Rattle.kernel.specs.Reading.{readKernel}
@@ -222,9 +223,13 @@ pairs-bytes (a ∷ b ∷ s) =
 block-replaces : (hex : List ℕ) → Replaces (loadBlock hex)
 unfolding loadBlock
 block-replaces hex =
-    let r = readBlock (paired hex) in
+    let s = paired hex in
+    let t = readEither s .table in
     pick Replaces (isHex hex)
-    (λ e. loaded-replaces hex r (λ g. blocks .one-to-one .gives-the-table-of-the-block (paired hex) (r .table) .0 (pairs-bytes hex, g) .0 .is-accepted))
+    (λ e. loaded-replaces hex (readEither s) (λ g. ⊎-elim
+    (λ old. blocks .one-to-one Old .gives-the-table-of-the-block s t .0 (pairs-bytes hex, old) .0 .is-accepted)
+    (λ new. blocks .one-to-one New .gives-the-table-of-the-block s t .0 (pairs-bytes hex, new) .0 .0)
+    (blocks .told-apart .either s t .0 g)))
     (λ e. loses)
 
 kernel-replaces : (given : List ℕ) (readable : Bool) (file : List ℕ) → Replaces (loadKernel given readable file)

@@ -44,7 +44,7 @@ use Rattle.clock.specs.declared.TickAnswer.the-variants.{Next, Refused as NoTic
 use Rattle.clock.specs.Clock.{next, start, tick, tickResults, onward, after}
 use Rattle.clock.specs.Promise.{lastLabel, ended}
 use Rattle.clock.proofs.Promise.{all-tick}
-use Rattle.block.specs.Blocks.{blockOf, blockTests}
+use Rattle.block.specs.Blocks.{blockIn, blockTests}
 use Rattle.kernel.specs.Writing.{kernelOf, kernelTests}
 use Rattle.cards.specs.Writing.{cardsOf, cardTests}
 use Rattle.pictures.specs.declared.Date.{Date}
@@ -232,7 +232,7 @@ module _ (t : Table) where
         stamp-of = stamp-of;
         write-julian = write-julian;
         read-julian = read-julian;
-        write-block = λ buffer. refusing-map (λ a. writtenResults a .0) NotWritten (roomLast (blockTests t) (blockOf t) buffer) (Wrote (length (blockOf t)));
+        write-block = λ form buffer. refusing-map (λ a. writtenResults a .0) NotWritten (roomLast (blockTests t) (blockIn form t) buffer) (Wrote (length (blockIn form t)));
         write-kernel = λ buffer. refusing-map (λ a. writtenResults a .0) NotWritten (roomLast (kernelTests t) (kernelOf t) buffer) (Wrote (length (kernelOf t)));
         write-cards = λ buffer. refusing-map (λ a. writtenResults a .0) NotWritten (roomLast (cardTests t) (cardsOf t) buffer) (Wrote (length (cardsOf t)));
         start-the-clock = refusing-map (λ a. tickResults a .0) NoTick (startTests t) (Next (label 1972 1 1 0 0 0));
@@ -248,7 +248,7 @@ orders =
       stamp-of = λ t k x. refl;
       write-julian = λ t k x. refl;
       read-julian = λ t k p. refl;
-      write-block = λ t buffer. refl;
+      write-block = λ form t buffer. refl;
       write-kernel = λ t buffer. refl;
       write-cards = λ t buffer. refl;
       start-the-clock = λ t. refl;

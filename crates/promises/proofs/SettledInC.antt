@@ -2,7 +2,7 @@
 -- Assumes nothing.
 use mathlib.Core.Path.{_≡_, ap}
 use Rattle.laws.specs.Settles.{Settles}
-use Rattle.laws.proofs.Settles.{equal, each, beside}
+use Rattle.laws.proofs.Settles.{equal, each, beside, beside-three}
 use Rattle.mundreff.proofs.Settled.{write-text-settled}
 use Rattle.promises.specs.SettledInC.{SettledInC}
 
@@ -18,6 +18,10 @@ settled-in-c =
       bulletin-c = λ table k. each;
       read-block = λ block place table k. equal;
       write-block = λ table out length k. beside;
+      read-new-block = λ block place table k. equal;
+      write-new-block = λ table out length k. beside;
+      renews = λ block v out place length k. beside-three;
+      reverts = λ block out place length k. beside-three;
       read-kernel = λ file place table k. equal;
       write-kernel = λ table out length k. beside;
       read-cards = λ file place table k. equal;

@@ -17,8 +17,8 @@ use Rattle.answer.specs.Buffers.{writtenResults}
 use Rattle.answer.proofs.Orders.{number-some}
 use Rattle.months.specs.Months.{leapYear, monthLength, daysBefore}
 use Rattle.leap.specs.declared.Table.{Table}
-use Rattle.leap.specs.Leap.{vouchedTo, withoutMonth, vouchedRight, oneApart, placeRight, accepted, lastBegun, offsetIn, beyond}
-use Rattle.leap.specs.Entries.{tableOf, Good}
+use Rattle.leap.specs.Leap.{withoutMonth, vouchedRight, oneApart, placeRight, accepted, lastBegun, offsetIn, beyond}
+use Rattle.leap.specs.Entries.{tableOf, FullLength, Good}
 use Rattle.leap.specs.declared.TableRead.{TableRead}
 use Rattle.leap.specs.Readers.{tableResults}
 use Rattle.leap.specs.Outcomes.{Outcome, entered, fault, tableRead}
@@ -47,9 +47,11 @@ use Rattle.clock.specs.declared.TickAnswer.the-variants.{Next, Refused as NoTic
 use Rattle.clock.specs.Clock.{start, tick, next, tickResults}
 use Rattle.clock.specs.Marks.{markedTick}
 use Rattle.clock.proofs.Beside.{tick-beside}
+use Rattle.block.specs.declared.Form.the-variants.{Old}
 use Rattle.block.specs.Reading.{inBlock}
 use Rattle.block.specs.Blocks.{blockOf}
 use Rattle.block.specs.Promise.{GivesTable as BlockGives}
+use Rattle.block.proofs.Held.{Under, under-block}
 use Rattle.block.proofs.Promise.{blocks}
 use Rattle.automaton.specs.Run.{mayEnd, scan}
 use Rattle.grammar.specs.Places.{limit}
@@ -75,7 +77,7 @@ use Rattle.julian.specs.Dates.{writeJulian, julianResults, readJulian}
 use Rattle.julian.specs.Marks.{markedPair, beyondRead}
 use Rattle.julian.proofs.Dates.{read-given}
 use Rattle.julian.proofs.Marks.{month-read}
-use Rattle.promises.specs.Vouched.{Beside, Beyond, BeyondAt, Marked, FullLength, SameAnswers, until2017, VouchedDesk, RequestA2}
+use Rattle.promises.specs.Vouched.{Beside, Beyond, BeyondAt, Marked, SameAnswers, until2017, VouchedDesk, RequestA2}
 use Rattle.promises.proofs.Orders.{every-call}
 
 -- ---- a mark is set beside an answer that is given, where it was asked for
@@ -254,10 +256,9 @@ module _ (t : Table) where
 abbrev no-month : TableRead → Type 0
 no-month r = tableResults r .2 .vouched ≡ 0
 
-block-none : (o : Outcome) → no-month (tableRead o)
-unfolding tableOf
-block-none (entered es) = refl
-block-none (fault why at) = refl
+block-none : (o : Outcome) → Under 0 o → no-month (tableRead o)
+block-none (entered v es) h = h
+block-none (fault why at) h = refl
 
 kernel-none : (s : List ℕ) → no-month (readKernel s)
 unfolding tableOf readKernel
@@ -310,8 +311,8 @@ module _ (t : Table) (ok : accepted t ≡ true) (full : FullLength t) where
   unvouched-good : Good (withoutMonth t)
   unvouched-good = record { is-accepted = without-month t (t .vouched) ok; no-month = refl; months-long = full .0; offsets-long = full .1 }
 
-  block-back : BlockGives (blockOf t) (withoutMonth t)
-  block-back = subst (λ s. BlockGives s (withoutMonth t)) (blocks .drops-the-month 0 t) (blocks .one-to-one .gives-the-table-of-the-block (blockOf (withoutMonth t)) (withoutMonth t) .1 (unvouched-good, refl) .1)
+  block-back : BlockGives Old (blockOf t) (withoutMonth t)
+  block-back = subst (λ s. BlockGives Old s (withoutMonth t)) (blocks .drops-the-month 0 t) (blocks .one-to-one Old .gives-the-table-of-the-block (blockOf (withoutMonth t)) (withoutMonth t) .1 (unvouched-good, refl) .1)
 
   kernel-back : KernelGives (kernelOf t) (withoutMonth t)
   kernel-back = subst (λ s. KernelGives s (withoutMonth t)) (kernels .drops-the-month 0 t) (kernels .reads-back (withoutMonth t) unvouched-good)
@@ -342,7 +343,7 @@ request-a2 =
       block-reads-back = block-back;
       kernel-reads-back = kernel-back;
       cards-read-back = cards-back;
-      none-in-a-block = λ s. block-none (inBlock s);
+      none-in-a-block = λ s. block-none (inBlock 0 0 s) (under-block 0 0 s);
       none-in-a-kernel = kernel-none;
       none-in-cards = cards-none;
       rows = desk;

@@ -1,6 +1,6 @@
 -- Answers in the scope's numbers: that of the refusal, 0 on success, the place of a refused block, and the values, zero in the rest on a refusal.
 -- Each crate has them for its answer type, case by case (`writtenResults`, `instantResults`, `stampResults`, `tickResults`, `textResults`, `julianResults`,
--- `tableResults`). Here is what holds of them; what a refusal hands over is shown in C's form.
+-- `tableResults`, `moveResults`). Here is what holds of them; what a refusal hands over is shown in C's form.
 -- Assumes nothing.
 use mathlib.Core.Path.{_≡_}
 use mathlib.Core.Bool.{Bool, true, false}
@@ -38,6 +38,8 @@ use Rattle.julian.specs.Dates.{julianResults}
 use Rattle.leap.specs.declared.Table.{Table}
 use Rattle.leap.specs.Leap.{vouchedTo}
 use Rattle.leap.specs.Readers.{noTable, found, refusedAt, tableResults}
+use Rattle.block.specs.declared.MoveAnswer.the-variants.{Moved, Refused as NotMoved}
+use Rattle.block.specs.Moves.{moveResults}
 use Rattle.block.specs.Desk.{tableN}
 use Rattle.words.specs.Words.{offsetWord, tableWords, Undone}
 use Rattle.mundreff.specs.Answers.{tableNumbers, stampFields, stampNumbers, labelNumbers, textNumbers, pairNumbers, instantWithMarks, stampWithMarks, textWithMarks, lengthWithMarks, labelWithMarks, pairWithMarks}
@@ -51,8 +53,9 @@ pub record ZeroInTheRest (why : Refusal) : Type 0 where
   pub a-label : labelNumbers (NoTick why) ≡ (number why, replicate 6 0)
   pub a-text : textNumbers (NoText why) ≡ (number why, pos 0, replicate 8 0)
   pub a-pair : pairNumbers (NoDate why) ≡ (number why, fin false 0 (pos 0), fin false 0 (pos 0))
-  -- a block, a kernel and cards have their place too; in C their table is 130 words
+  -- a block, a kernel, cards and a move have their place too; in C a table is 130 words
   pub a-block : (place : ℕ) → tableResults (refusedAt why place) ≡ (number why, place, noTable)
+  pub a-move : (place : ℕ) → moveResults (NotMoved why place) ≡ (number why, place, 0)
   pub a-block-in-c : (place : ℕ) → tableNumbers (refusedAt why place) ≡ (number why, place, replicate 130 0)
 
 -- what a success hands over: 0, and its values as they are
@@ -64,6 +67,7 @@ pub record AsItIs : Type 0 where
   pub a-text : (x : ℤ) (z : Stamp) → textResults (Read x z) ≡ (0, x, z)
   pub a-pair : (p : JulianDate) → julianResults (Dated p) ≡ (0, p)
   pub a-block : (t : Table) → tableResults (found t) ≡ (0, 0, t)
+  pub a-move : (n : ℕ) → moveResults (Moved n) ≡ (0, 0, n)
 
 -- in C the marks stand behind these, as bits: 1 is beyond
 pub record MarksBehind (b : Bool) : Type 0 where

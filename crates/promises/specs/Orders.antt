@@ -1,6 +1,7 @@
 -- The scope's paragraph "Order": the tests of each call in one list, each with its refusal. `Orders` has the numbers of each list, to be held against the
 -- paper. `GivenExactly` says that the number which a call answers is that of the first test of its list that fails, and 0 where none does.
 -- Reading a block, a kernel or cards has no list: it answers the first fault from the left (`ReadsBlock` of `block`, `ReadsKernel` of `kernel`, `ReadsCards` of `cards`).
+-- Nor has a move of a block: it reads, and then writes (`MovesBlock` of `block`).
 -- Assumes nothing.
 use mathlib.Core.Path.{_≡_}
 use mathlib.Core.Logic.{_↔_}
@@ -27,7 +28,8 @@ use Rattle.stamp.specs.declared.Scale.{Scale}
 use Rattle.stamp.specs.Scales.{scaleOf, knownScale, offsetsOf, mostSecond, instantFor}
 use Rattle.stamp.specs.Stamps.{instantOf, instantResults, stampOf, stampResults}
 use Rattle.clock.specs.Clock.{start, tick, tickResults}
-use Rattle.block.specs.Blocks.{blockOf, writeBlock}
+use Rattle.block.specs.declared.Form.{Form}
+use Rattle.block.specs.Blocks.{blockIn, writeIn}
 use Rattle.kernel.specs.Writing.{kernelOf, writeKernel}
 use Rattle.cards.specs.Writing.{inCardYears, cardsOf, writeCards}
 use Rattle.pictures.specs.declared.Date.{Date}
@@ -122,9 +124,9 @@ readJulianTests t k p =
 
 -- ---- a table alone, and the clock
 
--- `write_block`
-abbrev pub writeBlockTests : Table → List ℕ → List (Bool × Refusal)
-writeBlockTests t buffer = (accepted t, TABLE) ∷ (leb (length (blockOf t)) (length buffer), ROOM) ∷ []
+-- `write_block` and `write_new_block`
+abbrev pub writeBlockTests : Form → Table → List ℕ → List (Bool × Refusal)
+writeBlockTests form t buffer = (accepted t, TABLE) ∷ (leb (length (blockIn form t)) (length buffer), ROOM) ∷ []
 
 -- `write_kernel`
 abbrev pub writeKernelTests : Table → List ℕ → List (Bool × Refusal)
@@ -166,7 +168,7 @@ pub record Orders : Type 0 where
   pub write-julian : (t : Table) (k : ℕ) (x : ℤ) → order (instantTests t k x) ≡ 8 ∷ 11 ∷ 7 ∷ []
   -- 13, 7, then rounding, 7 again
   pub read-julian : (t : Table) (k : ℕ) (p : JulianDate) → order (readJulianTests t k p) ≡ 8 ∷ 11 ∷ 13 ∷ 7 ∷ 7 ∷ []
-  pub write-block : (t : Table) (buffer : List ℕ) → order (writeBlockTests t buffer) ≡ 11 ∷ 1 ∷ []
+  pub write-block : (form : Form) (t : Table) (buffer : List ℕ) → order (writeBlockTests form t buffer) ≡ 11 ∷ 1 ∷ []
   pub write-kernel : (t : Table) (buffer : List ℕ) → order (writeKernelTests t buffer) ≡ 11 ∷ 1 ∷ []
   pub write-cards : (t : Table) (buffer : List ℕ) → order (writeCardsTests t buffer) ≡ 11 ∷ 7 ∷ 1 ∷ []
   pub start-the-clock : (t : Table) → order (startTests t) ≡ 11 ∷ []
@@ -182,7 +184,7 @@ pub record GivenExactly (t : Table) : Type 0 where
   pub stamp-of : (k : ℕ) (x : ℤ) → stampResults (stampOf t x k) .0 ≡ verdict (instantTests t k x)
   pub write-julian : (k : ℕ) (x : ℤ) → julianResults (writeJulian t x k) .0 ≡ verdict (instantTests t k x)
   pub read-julian : (k : ℕ) (p : JulianDate) → instantResults (readJulian t k p) .0 ≡ verdict (readJulianTests t k p)
-  pub write-block : (buffer : List ℕ) → writtenResults (writeBlock t buffer) .0 ≡ verdict (writeBlockTests t buffer)
+  pub write-block : (form : Form) (buffer : List ℕ) → writtenResults (writeIn form t buffer) .0 ≡ verdict (writeBlockTests form t buffer)
   pub write-kernel : (buffer : List ℕ) → writtenResults (writeKernel t buffer) .0 ≡ verdict (writeKernelTests t buffer)
   pub write-cards : (buffer : List ℕ) → writtenResults (writeCards t buffer) .0 ≡ verdict (writeCardsTests t buffer)
   pub start-the-clock : tickResults (start t) .0 ≡ verdict (startTests t)

@@ -12,8 +12,9 @@ use Rattle.labels.specs.declared.Label.{Label}
 use Rattle.labels.specs.declared.Reading.{Reading}
 use Rattle.stamp.specs.Marks.{instantOfMarked, stampOfMarked}
 use Rattle.clock.specs.Marks.{startMarked, tickMarked}
-use Rattle.block.specs.Blocks.{writeBlock, writeBlockAfter}
-use Rattle.block.specs.Reading.{readBlock}
+use Rattle.block.specs.Blocks.{writeBlock, writeBlockAfter, writeNewBlock, writeNewBlockAfter}
+use Rattle.block.specs.Reading.{readBlock, readNewBlock}
+use Rattle.block.specs.Moves.{renew, renewAfter, revert, revertAfter}
 use Rattle.kernel.specs.Reading.{readKernel}
 use Rattle.kernel.specs.Writing.{writeKernel, writeKernelAfter}
 use Rattle.cards.specs.Reading.{readCards}
@@ -27,6 +28,10 @@ use Rattle.laws.specs.Settles.{_&_, Lent, _becomes_, Returns, Leaves}
 use Rattle.leap.proofs.bulletin_c.Reads as leap-bulletin-c
 use Rattle.block.proofs.read_block.Reads as block-read-block
 use Rattle.block.proofs.write_block.Reads as block-write-block
+use Rattle.block.proofs.read_new_block.Reads as block-read-new-block
+use Rattle.block.proofs.write_new_block.Reads as block-write-new-block
+use Rattle.block.proofs.renew.Reads as block-renew
+use Rattle.block.proofs.revert.Reads as block-revert
 use Rattle.kernel.proofs.read_kernel.Reads as kernel-read-kernel
 use Rattle.kernel.proofs.write_kernel.Reads as kernel-write-kernel
 use Rattle.cards.proofs.read_cards.Reads as cards-read-cards
@@ -48,6 +53,16 @@ pub record Settled : Type 0 where
   pub write-block : (t : Table) (out : Lent (List ℕ)) →
       Leaves block-write-block.Pre block-write-block.Post (t & out & tt) (λ bytes. t & out becomes bytes & tt)
       (writeBlock t (now out), writeBlockAfter t (now out))
+  pub read-new-block : (s : Lent (List ℕ)) → Returns block-read-new-block.Pre block-read-new-block.Post (s & tt) (readNewBlock (now s))
+  pub write-new-block : (t : Table) (out : Lent (List ℕ)) →
+      Leaves block-write-new-block.Pre block-write-new-block.Post (t & out & tt) (λ bytes. t & out becomes bytes & tt)
+      (writeNewBlock t (now out), writeNewBlockAfter t (now out))
+  pub renew : (s : Lent (List ℕ)) (v : ℕ) (out : Lent (List ℕ)) →
+      Leaves block-renew.Pre block-renew.Post (s & v & out & tt) (λ bytes. s & v & out becomes bytes & tt)
+      (renew (now s) v (now out), renewAfter (now s) v (now out))
+  pub revert : (s out : Lent (List ℕ)) →
+      Leaves block-revert.Pre block-revert.Post (s & out & tt) (λ bytes. s & out becomes bytes & tt)
+      (revert (now s) (now out), revertAfter (now s) (now out))
   pub read-kernel : (s : Lent (List ℕ)) → Returns kernel-read-kernel.Pre kernel-read-kernel.Post (s & tt) (readKernel (now s))
   pub write-kernel : (t : Table) (out : Lent (List ℕ)) →
       Leaves kernel-write-kernel.Pre kernel-write-kernel.Post (t & out & tt) (λ bytes. t & out becomes bytes & tt)

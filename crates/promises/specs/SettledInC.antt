@@ -10,8 +10,9 @@ use Rattle.leap.specs.declared.Table.{Table}
 use Rattle.leap.specs.Leap.{bulletinC}
 use Rattle.stamp.specs.Marks.{instantOfMarked, stampOfMarked}
 use Rattle.clock.specs.Marks.{startMarked, tickMarked}
-use Rattle.block.specs.Blocks.{writeBlock, writeBlockAfter}
-use Rattle.block.specs.Reading.{readBlock}
+use Rattle.block.specs.Blocks.{writeBlock, writeBlockAfter, writeNewBlock, writeNewBlockAfter}
+use Rattle.block.specs.Reading.{readBlock, readNewBlock}
+use Rattle.block.specs.Moves.{moveResults, renew, renewAfter, revert, revertAfter}
 use Rattle.kernel.specs.Reading.{readKernel}
 use Rattle.kernel.specs.Writing.{writeKernel, writeKernelAfter}
 use Rattle.cards.specs.Reading.{readCards}
@@ -28,6 +29,10 @@ use Rattle.words.proofs.store_table.Reads as words-store-table
 use Rattle.mundreff.proofs.mundreff_bulletin_c.Reads as c-bulletin-c
 use Rattle.mundreff.proofs.mundreff_read_block.Reads as c-read-block
 use Rattle.mundreff.proofs.mundreff_write_block.Reads as c-write-block
+use Rattle.mundreff.proofs.mundreff_read_new_block.Reads as c-read-new-block
+use Rattle.mundreff.proofs.mundreff_write_new_block.Reads as c-write-new-block
+use Rattle.mundreff.proofs.mundreff_renew.Reads as c-renew
+use Rattle.mundreff.proofs.mundreff_revert.Reads as c-revert
 use Rattle.mundreff.proofs.mundreff_read_kernel.Reads as c-read-kernel
 use Rattle.mundreff.proofs.mundreff_write_kernel.Reads as c-write-kernel
 use Rattle.mundreff.proofs.mundreff_read_cards.Reads as c-read-cards
@@ -53,6 +58,19 @@ pub record SettledInC : Type 0 where
   pub write-block : (table out : Lent (List ℕ)) (length : Lent ℕ) →
       LeavesTwo c-write-block.Pre c-write-block.Post (table & out & length & tt) (λ n bytes. table & out becomes bytes & length becomes n & tt)
       (also (writtenResults (writeBlock (tableFrom (now table)) (now out))) (writeBlockAfter (tableFrom (now table)) (now out)))
+  pub read-new-block : (block : Lent (List ℕ)) (place : Lent ℕ) (table : Lent (List ℕ)) →
+      LeavesTwo c-read-new-block.Pre c-read-new-block.Post (block & place & table & tt) (λ at words. block & place becomes at & table becomes words & tt)
+      (tableNumbers (readNewBlock (now block)))
+  pub write-new-block : (table out : Lent (List ℕ)) (length : Lent ℕ) →
+      LeavesTwo c-write-new-block.Pre c-write-new-block.Post (table & out & length & tt) (λ n bytes. table & out becomes bytes & length becomes n & tt)
+      (also (writtenResults (writeNewBlock (tableFrom (now table)) (now out))) (writeNewBlockAfter (tableFrom (now table)) (now out)))
+  pub renews : (block : Lent (List ℕ)) (vouched : ℕ) (out : Lent (List ℕ)) (place length : Lent ℕ) →
+      LeavesThree c-renew.Pre c-renew.Post (block & vouched & out & place & length & tt)
+      (λ at n bytes. block & vouched & out becomes bytes & place becomes at & length becomes n & tt)
+      (alsoThree (moveResults (renew (now block) vouched (now out))) (renewAfter (now block) vouched (now out)))
+  pub reverts : (block out : Lent (List ℕ)) (place length : Lent ℕ) →
+      LeavesThree c-revert.Pre c-revert.Post (block & out & place & length & tt) (λ at n bytes. block & out becomes bytes & place becomes at & length becomes n & tt)
+      (alsoThree (moveResults (revert (now block) (now out))) (revertAfter (now block) (now out)))
   pub read-kernel : (file : Lent (List ℕ)) (place : Lent ℕ) (table : Lent (List ℕ)) →
       LeavesTwo c-read-kernel.Pre c-read-kernel.Post (file & place & table & tt) (λ at words. file & place becomes at & table becomes words & tt)
       (tableNumbers (readKernel (now file)))

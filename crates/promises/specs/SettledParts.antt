@@ -21,8 +21,9 @@ use Rattle.months.specs.Months.{daysBefore, monthLength}
 use Rattle.calendar.specs.Days.{dayOfYear}
 use Rattle.calendar.specs.Dates.{spanOfDay, dateInYear}
 use Rattle.leap.specs.declared.Table.{Table}
-use Rattle.leap.specs.Leap.{tabled, vouchedTo, accepted, offsetAt, nearAt, beyond}
+use Rattle.leap.specs.Leap.{tabled, vouchedTo, vouchedRight, accepted, offsetAt, nearAt, beyond}
 use Rattle.leap.specs.Readers.{found, refusedAt, judged as judgedTable}
+use Rattle.block.specs.Reading.{readEither}
 use Rattle.labels.specs.declared.Label.{Label}
 use Rattle.labels.specs.declared.Reading.{Reading}
 use Rattle.labels.specs.declared.Place.{Place}
@@ -78,9 +79,11 @@ use Rattle.leap.proofs.found.Reads as leap-found
 use Rattle.leap.proofs.refused_at.Reads as leap-refused-at
 use Rattle.leap.proofs.judge.Reads as leap-judge
 use Rattle.leap.proofs.is_accepted_in.Reads as leap-is-accepted-in
+use Rattle.leap.proofs.vouched_right.Reads as leap-vouched-right
 use Rattle.leap.proofs.beyond.Reads as leap-beyond
 use Rattle.leap.proofs.offset_at.Reads as leap-offset-at
 use Rattle.leap.proofs.near.Reads as leap-near
+use Rattle.block.proofs.read_either.Reads as block-read-either
 use Rattle.labels.proofs.month_of.Reads as labels-month-of
 use Rattle.labels.proofs.judge.Reads as labels-judge
 use Rattle.labels.proofs.in_last_minute.Reads as labels-in-last-minute
@@ -157,8 +160,10 @@ pub record SettledParts : Type 0 where
   pub month-of-day : (day : ℕ) → Returns calendar-month-of-day.Pre calendar-month-of-day.Post (day & tt) (spanOfDay day)
   pub day-of-year : (m day : ℕ) → Returns calendar-day-of-year.Pre calendar-day-of-year.Post (m & day & tt) (dayOfYear m day)
   pub date-in-year : (year day : ℕ) → Returns calendar-date-in-year.Pre calendar-date-in-year.Post (year & day & tt) (dateInYear year day)
+  pub vouched-right : (last v : ℕ) → Returns leap-vouched-right.Pre leap-vouched-right.Post (last & v & tt) (vouchedRight last v)
   pub beyond : (v m : ℕ) → Returns leap-beyond.Pre leap-beyond.Post (v & m & tt) (beyond v m)
   pub month-of : (l : Label) → Returns labels-month-of.Pre labels-month-of.Post (l & tt) (monthOf l)
+  pub read-either : (s : Lent (List ℕ)) → Returns block-read-either.Pre block-read-either.Post (s & tt) (readEither (now s))
   pub judge : (most : ℕ) (r : Reading) → Returns labels-judge.Pre labels-judge.Post (most & r & tt) (judged most r)
   pub in-last-minute : (days : ℕ) (l : Label) → Returns labels-in-last-minute.Pre labels-in-last-minute.Post (days & l & tt) (inLastMinute days l)
   pub minute-length : (days : ℕ) (here after : ℤ) (l : Label) → Returns labels-minute-length.Pre labels-minute-length.Post (days & here & after & l & tt) (minuteIn days here after l)
@@ -185,7 +190,7 @@ module _ (count : ℕ) (months : Lent (List ℕ)) (offsets : Lent (List ℤ)) (v
 
   pub record SettledTables : Type 0 where
     pub tabled : Returns leap-tabled.Pre leap-tabled.Post (count & months & offsets & vouched & tt) table
-    pub found : Returns leap-found.Pre leap-found.Post (count & months & offsets & tt) (found entered)
+    pub found : Returns leap-found.Pre leap-found.Post (count & months & offsets & vouched & tt) (found table)
     pub is-accepted : Returns leap-is-accepted-in.Pre leap-is-accepted-in.Post (count & months & offsets & vouched & tt) (accepted table)
     pub judge : Returns leap-judge.Pre leap-judge.Post (count & months & offsets & tt) (judgedTable entered)
     pub offset-at : (m : ℕ) → Returns leap-offset-at.Pre leap-offset-at.Post (count & months & offsets & m & tt) (offsetAt entered m)

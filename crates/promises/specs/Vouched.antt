@@ -9,10 +9,10 @@ use mathlib.Core.Bool.{true, false}
 use mathlib.Core.List.{List}
 use Prim.Native.Nat.{ℕ}
 use lib.IntN.{ℤ, pos}
-use lib.ListN.{length}
 use Rattle.answer.specs.Buffers.{writtenResults}
 use Rattle.leap.specs.declared.Table.{Table}
 use Rattle.leap.specs.Leap.{vouchedTo, withoutMonth, accepted, bulletinC}
+use Rattle.leap.specs.Entries.{FullLength}
 use Rattle.leap.specs.Promise.{LiesBeyond, Vouched}
 use Rattle.leap.specs.Readers.{tableResults}
 use Rattle.labels.specs.declared.Label.{Label}
@@ -27,6 +27,7 @@ use Rattle.stamp.specs.Promise.{Reads, stamp, GivesInstant, GivesStamp}
 use Rattle.clock.specs.declared.TickAnswer.the-variants.{Next}
 use Rattle.clock.specs.Clock.{start, tick, tickResults}
 use Rattle.clock.specs.Marks.{startMarked, tickMarked}
+use Rattle.block.specs.declared.Form.the-variants.{Old}
 use Rattle.block.specs.Blocks.{blockOf, writeBlock, writeBlockAfter}
 use Rattle.block.specs.Promise.{GivesTable}
 use Rattle.block.specs.Reading.{readBlock}
@@ -79,10 +80,6 @@ pub record Marked (t : Table) : Type 0 where
   pub clock-starts : (startMarked t .beyond ≡ true) ↔ ((l : Label) × ((tickResults (start t) ≡ (0, l)) × Beyond t l))
   pub clock-ticks : (l : Label) → (tickMarked t l .beyond ≡ true) ↔ ((l′ : Label) × ((tickResults (tick t l) ≡ (0, l′)) × Beyond t l′))
 
--- 64 places for months and for offsets, as every table of a program has them
-abbrev pub FullLength : Table → Type 0
-FullLength t = (length (t .months) ≡ 64) × (length (t .offsets) ≡ 64)
-
 -- a month that a table is accepted with changes no answer and no byte
 pub record SameAnswers (t : Table) : Type 0 where
   pub instant-of : (k : ℕ) (r : Reading) → instantOf t k r ≡ instantOf (withoutMonth t) k r
@@ -94,7 +91,7 @@ pub record SameAnswers (t : Table) : Type 0 where
   pub read-julian : (k : ℕ) (p : JulianDate) → readJulian t k p ≡ readJulian (withoutMonth t) k p
   pub clock-starts : start t ≡ start (withoutMonth t)
   pub clock-ticks : (l : Label) → tick t l ≡ tick (withoutMonth t) l
-  -- so blocks, kernels and cards drop it
+  -- so old blocks, kernels and cards drop it
   pub write-block : (buffer : List ℕ) → (writeBlock t buffer ≡ writeBlock (withoutMonth t) buffer) × (writeBlockAfter t buffer ≡ writeBlockAfter (withoutMonth t) buffer)
   pub write-kernel : (buffer : List ℕ) → (writeKernel t buffer ≡ writeKernel (withoutMonth t) buffer) × (writeKernelAfter t buffer ≡ writeKernelAfter (withoutMonth t) buffer)
   pub write-cards : (buffer : List ℕ) → (writeCards t buffer ≡ writeCards (withoutMonth t) buffer) × (writeCardsAfter t buffer ≡ writeCardsAfter (withoutMonth t) buffer)
@@ -116,11 +113,11 @@ pub record RequestA2 : Type 0 where
   pub answers-beside : (t : Table) → Beside t
   pub marks : (t : Table) → Marked t
   pub same-answers : (t : Table) → accepted t ≡ true → SameAnswers t
-  -- what is written for a table with a month reads back as the table without it
-  pub block-reads-back : (t : Table) → accepted t ≡ true → FullLength t → GivesTable (blockOf t) (withoutMonth t)
+  -- what is written for a table with a month reads back as the table without it; a new block alone keeps it, as request A7 says
+  pub block-reads-back : (t : Table) → accepted t ≡ true → FullLength t → GivesTable Old (blockOf t) (withoutMonth t)
   pub kernel-reads-back : (t : Table) → accepted t ≡ true → FullLength t → KernelGives (kernelOf t) (withoutMonth t)
   pub cards-read-back : (t : Table) → accepted t ≡ true → FullLength t → InYears t → CardsGive (cardsOf t) (withoutMonth t)
-  -- tables read from blocks, kernels and cards have none given
+  -- tables read from old blocks, kernels and cards have none given
   pub none-in-a-block : (s : List ℕ) → tableResults (readBlock s) .2 .vouched ≡ 0
   pub none-in-a-kernel : (s : List ℕ) → tableResults (readKernel s) .2 .vouched ≡ 0
   pub none-in-cards : (s : List ℕ) → tableResults (readCards s) .2 .vouched ≡ 0

@@ -20,7 +20,7 @@ use Rattle.leap.specs.declared.TableAnswer.the-variants.{Read, Refused}
 use Rattle.leap.specs.declared.TableRead.{TableRead}
 use Rattle.leap.specs.Leap.{vouchedTo, accepted}
 use Rattle.leap.specs.Readers.{noTable}
-use Rattle.block.specs.Reading.{readBlock}
+use Rattle.block.specs.Reading.{readEither}
 use Rattle.kernel.specs.Reading.{readKernel}
 use Rattle.cards.specs.Reading.{readCards}
 use Rattle.phrases.specs.Texts.{refusalText, noMonth, noHex, noFile, longFile}
@@ -62,8 +62,9 @@ loadedBy given read = loadedAs given (read .table) (read .answer)
 unfoldable pub isHex : List ℕ → Bool
 isHex s = leb (length s / 2) 512 && allPairs s
 
+-- a block of either form
 unfoldable pub loadBlock : List ℕ → Load
-loadBlock hex = cond (isHex hex) (loadedBy hex (readBlock (paired hex))) (leaving noTable (refusingAs 8 noHex hex))
+loadBlock hex = cond (isHex hex) (loadedBy hex (readEither (paired hex))) (leaving noTable (refusingAs 8 noHex hex))
 
 -- a file of this name that is not read, refused with the number of its kind and a sentence
 abbrev pub notRead : ℕ → ℕ → List ℕ → Load

@@ -177,7 +177,7 @@ fn loaded_by(given: &[u8], read: TableRead, out: &mut [u8], at: usize) -> Loaded
     }
 }
 
-// Loads the table of a block in hex.
+// Loads the table of a block in hex, of either form.
 pub fn load_block(hex: &[u8], out: &mut [u8], at: usize) -> Loaded
     ensures { λ r. ⌜ Loads (now (out .entry)) at (loadBlock (now (hex .entry))) r (now (out .exit)) ⌝ }
 {
@@ -191,7 +191,7 @@ pub fn load_block(hex: &[u8], out: &mut [u8], at: usize) -> Loaded
         };
     };
     let k = lines::front(&bytes, n as usize);
-    let read = block::read_block(&bytes[..k]);
+    let read = block::read_either(&bytes[..k]);
     loaded_by(hex, read, out, at)
 }
 

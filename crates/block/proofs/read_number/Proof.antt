@@ -1,29 +1,35 @@
--- `block::read_number` meets its contract: a number of one group, or as many as `read_groups` finds.
+-- `block::read_number` meets its contract: what was read is tested against its bounds.
 -- Assumes nothing.
-use mathlib.Core.Path.{_≡_, sym, ap, _∙_}
-use Prim.Native.Nat.{ℕ, _<_}
-use native.Mathlib.Omega.{arith}
-use lib.ListN.{getD}
+use Prim.Native.Nat.{ℕ}
+use mathlib.Core.Bool.{Bool}
+use mathlib.Core.Path.{_≡_, refl, sym, ap, _∙_}
+use lib.ListN.{drop}
 use denote.Ref.{now}
 use borrow.Author.Needs.{needs}
-use borrow.Author.Tests.{ltb-true}
-use Rattle.block.specs.declared.NumberAnswer.the-variants.{Number}
-use Rattle.block.proofs.Numbers.{at-end, at-last}
+use Rattle.laws.proofs.Branches.{cond-yes, cond-rest}
+use Rattle.block.specs.declared.NumberAnswer.{NumberAnswer}
+use Rattle.block.specs.Faults.{within}
+use Rattle.block.specs.Reading.{tested, readNumber}
 use Rattle.block.proofs.read_number.Statement.{statement}
 use Rattle.block.proofs.read_number.Tie as tie
 
+-- what was read, and then tested
+module _ (c : tie.After-read-any) where
+  abbrev fine : ℕ → Bool
+  fine = within (c .before .before .args .least) (c .before .before .args .most)
+
+  is : {r : NumberAnswer} → c .read-any .result ≡ r → tested fine r ≡ readNumber fine (drop (c .before .before .args .at) (now (c .before .before .args .s)))
+  is e = ap (tested fine) (sym e ∙ c .read-any .ensures)
+
 returns : tie.Need-returns
-returns c = sym (at-end _ _ 3 (omega arith) (c .if1 .taken))
+returns c = let n = c .before .before in cond-yes _ (c .if1 .taken) refl ∙ is (n .before .before) (n .n .given .1)
 
 returns-2 : tie.Need-returns-2
-returns-2 c =
-    let t = c .before in
-    let a = t .before .before .before .before .before .args in
-    let b : getD (now (a .s)) (a .at) 0 < 128 = ltb-true _ _ (sym (t .before .is-last .ensures) ∙ t .if2 .taken) in
-    let e : c .group .result ≡ getD (now (a .s)) (a .at) 0 = omega (arith, c .group .ensures) in
-    ap (λ (n : ℕ). Number n 1) e ∙ sym (at-last (now (a .s)) (a .at) 3 (omega arith) (omega arith) b)
+returns-2 c = let n = c .before .before in cond-rest _ (c .if1 .left) refl ∙ is (n .before .before) (n .n .given .1)
+
+returns-3 : tie.Need-returns-3
+returns-3 c = is (c .before .before .before) (c .before .why .given .1)
 
 pub read-number-spec : {M : Type 1} → statement M
 read-number-spec =
-    tie.close
-    (tie.spec returns (λ c. search needs) (λ c κs. search needs) (λ c κs. search needs) returns-2 (λ c κs. search needs) (λ c. search needs))
+    tie.close (tie.spec (λ c κs. search needs) (λ c. search needs) (λ c. search needs) returns returns-2 returns-3)

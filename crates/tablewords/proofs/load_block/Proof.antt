@@ -5,7 +5,7 @@ use mathlib.Core.Path.{_≡_, refl, sym, ap, _∙_}
 use native.Mathlib.Omega.{arith}
 use lib.ListN.{length, take}
 use Rattle.laws.proofs.Branches.{cond-yes, cond-rest}
-use Rattle.block.specs.Reading.{readBlock}
+use Rattle.block.specs.Reading.{readEither}
 use Rattle.lines.specs.Pairs.{paired}
 use Rattle.lines.proofs.Pairs.{into-front, paired-few}
 use Rattle.tablewords.specs.Loading.{loadedBy, loadBlock}
@@ -37,7 +37,7 @@ returns-2 c =
     let few = paired-few x in
     let n : f .front .result ≡ length (paired x) = f .front .ensures .1 ∙ omega (arith, g .number, g .room) in
     let v : take (f .front .result) (h .hex .last .1 .0) ≡ paired x = rw (n, h .hex .ensures .1) (into-front _ x (g .room) (g .pairs)) in
-    loads-as (cond-yes _ (g .hex) (ap (loadedBy x) (b .read-block .ensures ∙ ap readBlock v))) (l .loaded-by .ensures)
+    loads-as (cond-yes _ (g .hex) (ap (loadedBy x) (b .read-either .ensures ∙ ap readEither v))) (l .loaded-by .ensures)
 
 pub load-block-spec : {M : Type 1} → statement M
 load-block-spec =

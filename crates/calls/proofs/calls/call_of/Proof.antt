@@ -1,4 +1,4 @@
--- The number stays below 16.
+-- The number stays below 20.
 -- Assumes nothing.
 use Prim.Native.Nat.{_-_, _≤_}
 use borrow.Author.Needs.{needs}
@@ -6,10 +6,10 @@ use Rattle.calls.proofs.calls.call_of.Statement.{statement}
 use Rattle.calls.proofs.calls.call_of.Tie as tie
 
 abbrev Inv-loop : tie.InvT-loop
-Inv-loop word names i₀ i = i ≤ 16
+Inv-loop word names i₀ i = i ≤ 20
 
 abbrev μ-loop : tie.MeasureT-loop
-μ-loop word names i₀ i = 16 - i
+μ-loop word names i₀ i = 20 - i
 
 pub call-of-spec : {M : Type 1} → statement M
 call-of-spec =
