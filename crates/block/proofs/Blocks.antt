@@ -6,7 +6,6 @@ use mathlib.Core.List.{List, [], _++_, append-assoc, append-nil}
 use native.Mathlib.Omega.{arith}
 use lib.ListN.{length, take, drop, replicate, length-append, length-take}
 use lib.Seq.{sets, sets-eq, length-sets, take-at}
-use lib.Dec.{lit<}
 use Rattle.leap.specs.declared.Table.{Table}
 use Rattle.leap.specs.Leap.{vouchedTo}
 use Rattle.leap.specs.Entries.{Entry, entry, entriesFrom}
@@ -17,7 +16,7 @@ use Rattle.block.specs.declared.Form.{Form}
 use Rattle.block.specs.declared.Form.the-variants.{Old, New}
 use Rattle.block.specs.Numbers.{numberBytes}
 use Rattle.block.specs.Blocks.{stepNumber, stepBytes, blockOf, opening}
-use Rattle.block.proofs.Numbers.{number-size, number-last}
+use Rattle.block.proofs.Numbers.{number-size, zero-bytes}
 use Rattle.block.proofs.Steps.{bit-small}
 use Rattle.laws.proofs.Placed.{take-sets}
 
@@ -29,7 +28,7 @@ block-same v t = ap (λ es. numberBytes (t .count) ++ stepBytes es) (entries-sam
 -- an opening has no more than four bytes
 pub opening-size : (form : Form) (v : ℕ) → length (opening form v) ≤ 4
 opening-size Old v = omega arith
-opening-size New v = omega (arith, length-append (numberBytes 0) (numberBytes v), number-size v, ap length (number-last 0 (lit< tt)))
+opening-size New v = omega (arith, length-append (numberBytes 0) (numberBytes v), number-size v, ap length zero-bytes)
 
 -- the number of a month that is accepted has three groups at most
 pub month-small : {t : Table} → Accepted t → t .vouched < 128 ^ 3

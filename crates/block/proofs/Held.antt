@@ -7,7 +7,7 @@ use mathlib.Core.Bool.{Bool, true}
 use native.Mathlib.Omega.{arith}
 use lib.ListN.{length, drop, getD}
 use lib.Seq.{drop-append-seam, getD-drop}
-use lib.Dec.{eqb, lit<}
+use lib.Dec.{eqb}
 use borrow.Author.Tests.{eqb-true}
 use Rattle.laws.proofs.Cases.{pick, chosen}
 use Rattle.answer.specs.declared.Refusal.{Refusal}
@@ -27,7 +27,7 @@ use Rattle.block.specs.Blocks.{stepNumber, stepBytes, blockOf, opening, 
 use Rattle.block.specs.Faults.{within, gapFine}
 use Rattle.block.specs.Reading.{readGroups, readNumber, nextEntry, onNumber, lastEntry, readEntries, inBlock, inVouched, inForm}
 use Rattle.block.specs.Promise.{Bytes, Held}
-use Rattle.block.proofs.Numbers.{read-written, written-read, was-tested, number-last}
+use Rattle.block.proofs.Numbers.{read-written, written-read, was-tested, zero-bytes}
 use Rattle.block.proofs.Steps.{bit-small, next-bit, next-back, next-apart}
 use Rattle.block.proofs.Reading.{within-is, is-within, gap-fine, is-gap-fine}
 use Rattle.block.proofs.Blocks.{block-same, step-small}
@@ -73,7 +73,7 @@ block-back t at a =
 
 -- a new block begins with the byte 0 and the number of a month
 pub opened : (v : ℕ) (s : List ℕ) → opening New v ++ s ≡ 0 ∷ numberBytes v ++ s
-opened v s = ap (λ x. (x ++ numberBytes v) ++ s) (number-last 0 (lit< tt))
+opened v s = ap (λ x. (x ++ numberBytes v) ++ s) zero-bytes
 
 -- behind that byte the new reader reads the number, and behind the number an old block under it
 behind-zero : (s : List ℕ) → inForm New (0 ∷ s) ≡ inVouched s
@@ -87,9 +87,9 @@ behind-month v s l = rw (read-written 2 v s (omega arith), is-within 0 (lastEntr
 -- so the block of a table that the form holds gives its entries
 pub form-back : (form : Form) (t : Table) → Held form t → inForm form (blockIn form t) ≡ entered (t .vouched) (entries t)
 form-back Old t g =
-    subst (λ v. inBlock v 0 (blockOf t) ≡ entered (t .vouched) (entries t)) (g .no-month) (block-back t 0 (accepted-to t (g .is-accepted)))
+    subst (λ v. inBlock v 0 (blockOf t) ≡ entered (t .vouched) (entries t)) (g .month-fits) (block-back t 0 (accepted-to t (g .is-accepted)))
 form-back New t h =
-    let a = accepted-to t (h .0) in
+    let a = accepted-to t (h .is-accepted) in
     let v = t .vouched in
     ap (inForm New) (opened v (blockOf t)) ∙ behind-zero (numberBytes v ++ blockOf t) ∙ behind-month v (blockOf t) (right-late _ (a .month-right)) ∙ block-back t (1 + length (numberBytes v)) a
 
@@ -237,7 +237,7 @@ unfolding inVouched
 vouched-only s {w} {es} h e =
     let m = was-number 1 (within 0 (lastEntryMonth + 1)) (λ v size. inBlock v (1 + size) (drop size s)) s e in
     let b = block-only (m .n) (1 + m .size) (drop (m .size) s) (bytes-drop (m .size) s h) (m .goes) in
-    ((b .1 .right, b .1 .long), ap₂ (λ x y. numberBytes x ++ y) (b .0) (b .1 .block) ∙ numbered-bytes h m)
+    (record { is-accepted = b .1 .right; full-length = b .1 .long; month-fits = tt }, ap₂ (λ x y. numberBytes x ++ y) (b .0) (b .1 .block) ∙ numbered-bytes h m)
 
 -- s is the block of a table that the form holds
 abbrev pub BlockIs : Form → List ℕ → Table → Type 0
@@ -247,10 +247,10 @@ BlockIs form s t = Held form t × (blockIn form t ≡ s)
 pub form-only : (form : Form) (s : List ℕ) {w : ℕ} {es : List Entry} → Bytes s → inForm form s ≡ entered w es → BlockIs form s (vouchedTo w (tableOf es))
 form-only Old s h e =
     let b = block-only 0 0 s h e in
-    (record { is-accepted = b .1 .right; no-month = b .0; months-long = b .1 .long .0; offsets-long = b .1 .long .1 }, b .1 .block)
+    (record { is-accepted = b .1 .right; full-length = b .1 .long; month-fits = b .0 }, b .1 .block)
 form-only New s {w} {es} h e =
     let m = was-number 0 (within 0 0) (λ n size. inVouched (drop 1 s)) s e in
     let z : m .n ≡ 0 = omega (arith, within-is 0 0 (m .n) (m .right)) in
-    let begins : 0 ∷ drop (m .size) s ≡ s = ap (λ x. x ++ drop (m .size) s) (sym (number-last 0 (lit< tt)) ∙ ap numberBytes (sym z)) ∙ numbered-bytes h m in
+    let begins : 0 ∷ drop (m .size) s ≡ s = ap (λ x. x ++ drop (m .size) s) (sym zero-bytes ∙ ap numberBytes (sym z)) ∙ numbered-bytes h m in
     let b = vouched-only (drop 1 s) (bytes-drop 1 s h) (m .goes) in
     (b .0, opened w _ ∙ ap (λ x. 0 ∷ x) (b .1 ∙ ap (drop 1) (sym begins)) ∙ begins)

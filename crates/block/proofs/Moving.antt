@@ -6,7 +6,6 @@ use mathlib.Core.Bool.{true}
 use mathlib.Core.List.{List, _++_}
 use borrow.Author.Tests.{lt-leb}
 use lib.ListN.{length, take}
-use Rattle.laws.specs.Placed.{over}
 use Rattle.laws.proofs.Cases.{and-l}
 use Rattle.answer.specs.declared.Written.{Written}
 use Rattle.answer.specs.declared.Written.the-variants.{Wrote, Refused}
@@ -29,7 +28,7 @@ use Rattle.block.specs.Moves.{moveResults, placed, rewritten, rewrittenA
 use Rattle.block.specs.Promise.{GivesTable, Held, MovesTo, MovesBlock, ThereAndBack, TheMoves, Moves}
 use Rattle.block.proofs.Blocks.{block-same}
 use Rattle.block.proofs.Faults.{form-fault}
-use Rattle.block.proofs.Promise.{held-right, block-gives, given-is, was-fault, writes}
+use Rattle.block.proofs.Promise.{block-gives, given-is, was-fault, writes}
 
 -- ---- one move
 
@@ -114,10 +113,12 @@ there-and-back = record {
       let t = r .0 in
       let a = was-moved Old New v s buffer t (r .1) n e .0 in
       let good = given-good Old s t (r .1) v a in
-      moved-back Old New v s buffer t (r .1) n e (a, (good .months-long, good .offsets-long)) 0 other s (good .is-accepted) (block-same 0 t ∙ given-is Old s t h (r .1) .1) l;
-  new-old-new = λ s t v n buffer other g e a l. moved-back New Old 0 s buffer t g n e (given-good New s t g v a) v other (blockIn New (vouchedTo v t)) a refl l;
+      moved-back Old New v s buffer t (r .1) n e (record { is-accepted = a; full-length = (good .months-long, good .offsets-long); month-fits = tt }) 0 other s (good .is-accepted) (block-same 0 t ∙ given-is Old s t h (r .1) .1) l;
+  new-old-new = λ s t v n buffer other g e a l.
+      let good = given-good New s t g v a in
+      moved-back New Old 0 s buffer t g n e (record { is-accepted = good .is-accepted; full-length = (good .months-long, good .offsets-long); month-fits = refl }) v other (blockIn New (vouchedTo v t)) a refl l;
   the-same-block = λ s t h g. given-is New s t h g .1;
-  none-is-carried = λ form s t h g. without-month t (t .vouched) (held-right form t (given-is form s t h g .0) .0);
+  none-is-carried = λ form s t h g. without-month t (t .vouched) (given-is form s t h g .0 .is-accepted);
 }
 
 the-moves : TheMoves

@@ -17,7 +17,7 @@ use Rattle.block.specs.declared.NumberAnswer.{NumberAnswer}
 use Rattle.block.specs.declared.NumberAnswer.the-variants.{Number, Bad}
 use Rattle.block.specs.Promise.{Bytes}
 use Rattle.block.specs.Numbers.{groupsOf, numberBytes}
-use Rattle.block.specs.Reading.{above, readGroups, tested}
+use Rattle.block.specs.Reading.{above, readGroups, tested, readNumber}
 
 -- ---- a number of one group, and of more
 
@@ -107,6 +107,10 @@ read-within (suc k) (b ∷ s) n size e = go (begins k b s n size e) (read-within
 
 -- ---- a number that is tested
 
+-- what was read of s, as r, by its test
+pub tests : (fine : ℕ → Bool) (s : List ℕ) {read r : NumberAnswer} → read ≡ readGroups 3 s → read ≡ r → tested fine r ≡ readNumber fine s
+tests fine s e f = ap (tested fine) (sym f ∙ e)
+
 pub was-tested : (fine : ℕ → Bool) (r : NumberAnswer) {n size : ℕ} → tested fine r ≡ Number n size → (r ≡ Number n size) × (fine n ≡ true)
 was-tested fine (Number m part) {n} {size} e =
     let q = chosen (fine m) (λ f. let z : _≡_ {A = ℕ} 0 1 = cc in absurd (omega arith)) e in
@@ -159,6 +163,10 @@ enough (suc k) n h =
 
 pub number-last : (n : ℕ) → n < 128 → numberBytes n ≡ n ∷ []
 number-last = one-group 2
+
+-- the number 0 is the byte 0
+pub zero-bytes : numberBytes 0 ≡ 0 ∷ []
+zero-bytes = number-last 0 (lit< tt)
 
 pub number-more : (n : ℕ) → 128 ≤ n → n < 128 ^ 3 → numberBytes n ≡ (128 + n % 128) ∷ numberBytes (n / 128)
 number-more n l h = more-groups 2 n l ∙ ap (λ (x : List ℕ). (128 + n % 128) ∷ x) (sym (enough 1 (n / 128) (omega arith)))

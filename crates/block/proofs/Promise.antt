@@ -4,7 +4,6 @@ use Prim.Native.Nat.{ℕ, _<_}
 use mathlib.Core.Path.{_≡_, refl, sym, ap, ap₂, subst, _∙_}
 use mathlib.Core.Logic.{_⊎_, inl, inr, ⊎-elim}
 use mathlib.Core.List.{List, [], _∷_, _++_}
-use mathlib.Core.Bool.{true}
 use native.Mathlib.Omega.{arith}
 use lib.ListN.{length}
 use lib.Dec.{eqb, lit<}
@@ -16,8 +15,8 @@ use Rattle.answer.specs.Refusals.{number}
 use Rattle.answer.proofs.Orders.{number-some, numbers-differ}
 use Rattle.answer.proofs.Promise.{writer}
 use Rattle.leap.specs.declared.Table.{Table}
-use Rattle.leap.specs.Leap.{vouchedTo, withoutMonth, accepted}
-use Rattle.leap.specs.Entries.{Entry, entries, tableOf, FullLength, Good}
+use Rattle.leap.specs.Leap.{vouchedTo, withoutMonth}
+use Rattle.leap.specs.Entries.{Entry, entries, tableOf, Good}
 use Rattle.leap.specs.Readers.{noTable, tableResults}
 use Rattle.leap.specs.Outcomes.{Outcome, entered, fault, tableRead}
 use Rattle.leap.proofs.Facts.{accepted-to}
@@ -55,15 +54,10 @@ block-bytes : (form : Form) (t : Table) → Bytes (blockIn form t)
 unfolding blockOf
 block-bytes form t = bytes-append (opening form (t .vouched)) (blockOf t) (opening-bytes form (t .vouched)) (bytes-append (numberBytes (t .count)) (stepBytes (entries t)) (bytes-groups 3 (t .count)) (steps-bytes (entries t)))
 
--- a table that a form holds is accepted and of full length
-pub held-right : (form : Form) (t : Table) → Held form t → (accepted t ≡ true) × FullLength t
-held-right Old t g = (g .is-accepted, (g .months-long, g .offsets-long))
-held-right New t h = h
-
--- it is that of its entries under its month
-held-table : (t : Table) → (accepted t ≡ true) × FullLength t → vouchedTo (t .vouched) (tableOf (entries t)) ≡ t
-held-table t h =
-    let g : Good (withoutMonth t) = record { is-accepted = without-month t (t .vouched) (h .0); no-month = refl; months-long = h .1 .0; offsets-long = h .1 .1 } in
+-- a table that a form holds is that of its entries under its month
+held-table : (form : Form) (t : Table) → Held form t → vouchedTo (t .vouched) (tableOf (entries t)) ≡ t
+held-table form t h =
+    let g : Good (withoutMonth t) = record { is-accepted = without-month t (t .vouched) (h .is-accepted); no-month = refl; months-long = h .full-length .0; offsets-long = h .full-length .1 } in
     ap (λ es. vouchedTo (t .vouched) (tableOf es)) (sym (entries-same 0 t)) ∙ ap (vouchedTo (t .vouched)) (table-is g)
 
 -- the same outcome is the same answer
@@ -73,7 +67,7 @@ answered e = ap (λ o. tableResults (tableRead o)) e
 module _ (form : Form) where
   -- the block of a table gives it, and only that
   pub block-gives : (t : Table) → Held form t → GivesTable form (blockIn form t) t
-  block-gives t h = answered (form-back form t h) ∙ ap (λ u. (0, 0, u)) (held-table t (held-right form t h))
+  block-gives t h = answered (form-back form t h) ∙ ap (λ u. (0, 0, u)) (held-table form t h)
 
   pub given-is : (s : List ℕ) (t : Table) → Bytes s → GivesTable form s t → BlockIs form s t
   given-is s t h e =

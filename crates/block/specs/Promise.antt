@@ -13,7 +13,7 @@ use Rattle.answer.specs.Refusals.{number}
 use Rattle.answer.specs.Buffers.{writtenResults}
 use Rattle.leap.specs.declared.Table.{Table}
 use Rattle.leap.specs.Leap.{vouchedTo, accepted}
-use Rattle.leap.specs.Entries.{FullLength, Good}
+use Rattle.leap.specs.Entries.{FullLength}
 use Rattle.leap.specs.Readers.{noTable, tableResults}
 use Rattle.block.specs.declared.Form.{Form}
 use Rattle.block.specs.declared.Form.the-variants.{Old, New}
@@ -30,10 +30,16 @@ Bytes s = (i : ℕ) → getD s i 0 < 256
 abbrev pub GivesTable : Form → List ℕ → Table → Type 0
 GivesTable form s t = tableResults (readIn form s) ≡ (0, 0, t)
 
--- the tables that have a block of this form: every accepted one, and in the old form where no month is given
-abbrev pub Held : Form → Table → Type 0
-Held Old t = Good t
-Held New t = (accepted t ≡ true) × FullLength t
+-- the old form has no place for a month
+abbrev pub MonthFits : Form → ℕ → Type 0
+MonthFits Old v = v ≡ 0
+MonthFits New v = Unit {0}
+
+-- a table that has a block of this form: accepted, of full length as every table of a program is, and in the old form without a month
+pub record Held (form : Form) (t : Table) : Type 0 where
+  pub is-accepted : accepted t ≡ true
+  pub full-length : FullLength t
+  pub month-fits : MonthFits form (t .vouched)
 
 pub record OneToOne (form : Form) : Type 0 where
   -- bytes give a table exactly when the form holds it and they are its block

@@ -1,16 +1,18 @@
 // The stored block of a leap table in its two forms: read with the first fault and its place, written whole or not at all, and moved from one form to the other.
 // Its numbers are groups of seven bits, lowest group first, one group to a byte; the top bit marks that more follow.
 ghost use mathlib.Core.Path.{_≡_};
-ghost use mathlib.Core.Bool.{true};
+ghost use mathlib.Core.Bool.{true, cond};
 ghost use Prim.Native.Nat.{_+_, _-_, _<_, _≤_, _^_, _%_};
 ghost use lib.Dec.{ltb};
 ghost use lib.ListN.{length, take, drop, replicate};
 ghost use lib.IntN.{pos};
 ghost use lib.Seq.{sets};
 ghost use lib.Signed.{mag};
+ghost use Rattle.answer.specs.declared.Refusal.the-variants.{Table as TABLE};
 ghost use Rattle.leap.specs.Leap.{lastEntryMonth, tabled, vouchedTo, accepted};
 ghost use Rattle.leap.specs.Entries.{firstEntry};
 ghost use Rattle.leap.specs.Outcomes.{tableRead};
+ghost use Rattle.block.specs.declared.NumberAnswer.the-variants.{Number, Bad};
 ghost use Rattle.block.specs.Numbers.{numberBytes};
 ghost use Rattle.block.specs.Blocks.{stepNumber, opening, blockIn, writeIn, writeInAfter, writeBlock, writeBlockAfter, writeNewBlock, writeNewBlockAfter};
 ghost use Rattle.block.specs.Faults.{within, gapFine};
@@ -91,17 +93,40 @@ fn read_any(s: &[u8], at: usize) -> NumberAnswer
     read_long(byte, s, at + 1)
 }
 
+// A number that was read, by its own test.
+fn tested(fine: bool, n: u32, size: usize) -> NumberAnswer
+    ensures { λ r. ⌜ r ≡ cond fine (Number n size) (Bad TABLE) ⌝ }
+{
+    if fine {
+        NumberAnswer::Number(n, size)
+    } else {
+        NumberAnswer::Bad(Refusal::Table)
+    }
+}
+
 // The number at `at`, which is to be from `least` to `most`.
 fn read_number(s: &[u8], at: usize, least: u32, most: u32) -> NumberAnswer
     ensures { λ r. ⌜ r ≡ readNumber (within least most) (drop at (now (s .entry))) ⌝ }
 {
     match read_any(s, at) {
+        NumberAnswer::Number(n, size) => tested((least <= n) & (n <= most), n, size),
+        NumberAnswer::Bad(why) => NumberAnswer::Bad(why),
+    }
+}
+
+// The number of the entry after one of month `before`: a gap of at least a month, and no month past December 9999.
+fn read_gap(s: &[u8], at: usize, before: u32) -> NumberAnswer
+    requires { ⌜ before ≤ lastEntryMonth ⌝ }
+    ensures { λ r. ⌜ r ≡ readNumber (gapFine before) (drop at (now (s .entry))) ⌝ }
+{
+    match read_any(s, at) {
         NumberAnswer::Number(n, size) => {
-            if (least <= n) & (n <= most) {
-                NumberAnswer::Number(n, size)
-            } else {
-                NumberAnswer::Bad(Refusal::Table)
-            }
+            let gap = n / 2;
+            tested(
+                (0 < gap) & (before + gap <= leap::LAST_ENTRY_MONTH),
+                n,
+                size,
+            )
         }
         NumberAnswer::Bad(why) => NumberAnswer::Bad(why),
     }
@@ -123,24 +148,6 @@ fn write_number(n: u32, out: &mut [u8], at: usize) -> usize
     }
     out[i] = left as u8;
     i + 1
-}
-
-// The number of the entry after one of month `before`: a gap of at least a month, and no month past December 9999.
-fn read_gap(s: &[u8], at: usize, before: u32) -> NumberAnswer
-    requires { ⌜ before ≤ lastEntryMonth ⌝ }
-    ensures { λ r. ⌜ r ≡ readNumber (gapFine before) (drop at (now (s .entry))) ⌝ }
-{
-    match read_any(s, at) {
-        NumberAnswer::Number(n, size) => {
-            let gap = n / 2;
-            if (0 < gap) & (before + gap <= leap::LAST_ENTRY_MONTH) {
-                NumberAnswer::Number(n, size)
-            } else {
-                NumberAnswer::Bad(Refusal::Table)
-            }
-        }
-        NumberAnswer::Bad(why) => NumberAnswer::Bad(why),
-    }
 }
 
 // ---- reading

@@ -36,9 +36,10 @@ use Rattle.text.specs.declared.TextAnswer.the-variants.{Read as StampRead}
 use Rattle.text.specs.Text.{readText, textResults}
 use Rattle.text.specs.Promise.{AcceptedAs, Names}
 use Rattle.text.proofs.Exactly.{read-exactly}
+use Rattle.block.specs.declared.Form.{Form}
 use Rattle.block.specs.declared.Form.the-variants.{Old, New}
 use Rattle.block.specs.Reading.{readEither}
-use Rattle.block.specs.Promise.{Bytes}
+use Rattle.block.specs.Promise.{Bytes, GivesTable}
 use Rattle.block.proofs.Promise.{blocks}
 use Rattle.kernel.specs.Reading.{readKernel}
 use Rattle.kernel.proofs.Promise.{kernels}
@@ -226,11 +227,11 @@ block-replaces hex =
     let s = paired hex in
     let t = readEither s .table in
     pick Replaces (isHex hex)
-    (λ e. loaded-replaces hex (readEither s) (λ g. ⊎-elim
-    (λ old. blocks .one-to-one Old .gives-the-table-of-the-block s t .0 (pairs-bytes hex, old) .0 .is-accepted)
-    (λ new. blocks .one-to-one New .gives-the-table-of-the-block s t .0 (pairs-bytes hex, new) .0 .0)
-    (blocks .told-apart .either s t .0 g)))
+    (λ e. loaded-replaces hex (readEither s) (λ g. ⊎-elim (right Old s t (pairs-bytes hex)) (right New s t (pairs-bytes hex)) (blocks .told-apart .either s t .0 g)))
     (λ e. loses)
+  where
+    right : (form : Form) (s : List ℕ) (t : Table) → Bytes s → GivesTable form s t → accepted t ≡ true
+    right form s t b g = blocks .one-to-one form .gives-the-table-of-the-block s t .0 (b, g) .0 .is-accepted
 
 kernel-replaces : (given : List ℕ) (readable : Bool) (file : List ℕ) → Replaces (loadKernel given readable file)
 unfolding loadKernel

@@ -312,7 +312,7 @@ module _ (t : Table) (ok : accepted t ≡ true) (full : FullLength t) where
   unvouched-good = record { is-accepted = without-month t (t .vouched) ok; no-month = refl; months-long = full .0; offsets-long = full .1 }
 
   block-back : BlockGives Old (blockOf t) (withoutMonth t)
-  block-back = subst (λ s. BlockGives Old s (withoutMonth t)) (blocks .drops-the-month 0 t) (blocks .one-to-one Old .gives-the-table-of-the-block (blockOf (withoutMonth t)) (withoutMonth t) .1 (unvouched-good, refl) .1)
+  block-back = subst (λ s. BlockGives Old s (withoutMonth t)) (blocks .drops-the-month 0 t) (blocks .one-to-one Old .gives-the-table-of-the-block (blockOf (withoutMonth t)) (withoutMonth t) .1 (record { is-accepted = unvouched-good .is-accepted; full-length = full; month-fits = refl }, refl) .1)
 
   kernel-back : KernelGives (kernelOf t) (withoutMonth t)
   kernel-back = subst (λ s. KernelGives s (withoutMonth t)) (kernels .drops-the-month 0 t) (kernels .reads-back (withoutMonth t) unvouched-good)

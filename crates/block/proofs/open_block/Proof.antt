@@ -4,7 +4,6 @@ use Prim.Native.Nat.{ℕ, _+_}
 use mathlib.Core.Path.{_≡_, refl, ap, ap₂, _∙_}
 use mathlib.Core.List.{List}
 use native.Mathlib.Omega.{arith}
-use lib.Dec.{lit<}
 use lib.ListN.{length, length-append}
 use lib.Seq.{sets, length-sets}
 use denote.Ref.{now}
@@ -12,19 +11,19 @@ use borrow.Author.Needs.{needs}
 use Rattle.block.specs.declared.Form.the-variants.{New}
 use Rattle.block.specs.Blocks.{opening}
 use Rattle.block.specs.Numbers.{numberBytes}
-use Rattle.block.proofs.Numbers.{number-size, number-last}
+use Rattle.block.proofs.Numbers.{number-size, zero-bytes}
 use Rattle.block.proofs.open_block.Statement.{statement}
 use Rattle.block.proofs.open_block.Tie as tie
 
 -- the number 0 is one byte
 zero-size : length (numberBytes 0) ≡ 1
-zero-size = ap length (number-last 0 (lit< tt))
+zero-size = ap length zero-bytes
 
 -- two numbers, one behind the other
 both-stored : (v : ℕ) (l : List ℕ) {first second : List ℕ} {at : ℕ} → at ≡ 0 + length (numberBytes 0) → first ≡ sets l 0 (numberBytes 0) → second ≡ sets first at (numberBytes v) → second ≡ sets l 0 (opening New v)
 both-stored v l {first} {second} {at} ea ef es =
     let one : at ≡ 1 = omega (arith, zero-size) in
-    es ∙ ap₂ (λ x k. sets x k (numberBytes v)) ef one ∙ rw (number-last 0 (lit< tt)) refl
+    es ∙ ap₂ (λ x k. sets x k (numberBytes v)) ef one ∙ rw zero-bytes refl
 
 returns-2 : tie.Need-returns-2
 returns-2 c =
