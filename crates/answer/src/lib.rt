@@ -1,12 +1,14 @@
 // Why a call is refused, the marks beside an answer as a number, and the one function that meets a lent buffer.
 // Every public call answers a value or one of the refusals, in an order that `refusing` of specs/ says.
+#![tactic(auto)]
+
 ghost use Rattle.std.specs.Prelude.{◌≡◌, []};
 ghost use Rattle.answer.specs.Refusals.{number};
 ghost use Rattle.answer.specs.Marks.{marks};
 ghost use Rattle.answer.specs.Buffers.{written, buffer_after};
 
 // The scope's thirteen in its order, and those that requests added.
-#[derive(Drop)]
+#[derive(Clone, Copy)]
 pub enum Refusal {
     Room,
     Shape,
@@ -26,7 +28,7 @@ pub enum Refusal {
 }
 
 // How many bytes were written, or why none.
-#[derive(Drop)]
+#[derive(Clone, Copy)]
 pub enum Written {
     Wrote(usize),
     Refused(Refusal),
@@ -72,6 +74,6 @@ pub fn write(bytes: &[u8], out: &mut [u8]) -> Written
     if out.len() < bytes.len() {
         return Written::Refused(Refusal::Room);
     }
-    bytes::copy(bytes, out);
+    out[..bytes.len()].copy_from_slice(bytes);
     Written::Wrote(bytes.len())
 }

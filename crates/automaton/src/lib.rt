@@ -1,5 +1,7 @@
 // The reader of kernels as an automaton: where it stands in the grammar, a byte, and where it stands behind it.
 // No mode needs a precondition: what is kept of a number, a year or a word stays within its type for every byte.
+#![tactic(auto)]
+
 ghost use Rattle.std.specs.Prelude.{◌≡◌, cond};
 ghost use Rattle.automaton.specs.Step.{in_text, in_gap, in_fresh, in_closed, in_run, in_quoted, in_rest, in_other, in_named, in_name, in_close, in_plus, in_value, in_quote, to_item, in_open, in_items, behind_item, in_item_run, in_item_quote, in_item_quoted, in_inside, in_sign, in_digits, in_to_date, in_pair, in_our_value, to_pair, in_first, in_pairs, in_ours, in_year, in_month, in_day, in_date, in_done, step as stepped};
 ghost use Rattle.automaton.specs.Ways.{reached, Leads, behind_date};
@@ -7,7 +9,7 @@ ghost use Rattle.automaton.specs.Ways.{reached, Leads, behind_date};
 use kinds::{is_between, is_gap, is_name, is_run, is_white, pick};
 
 // Where the reader stands.
-#[derive(Drop)]
+#[derive(Clone, Copy)]
 pub enum Mode {
     // Where a file may end.
     Rest(Resting),
@@ -27,7 +29,7 @@ pub enum Mode {
     Dead(usize),
 }
 
-#[derive(Drop)]
+#[derive(Clone, Copy)]
 pub enum Resting {
     // In a line of text: so many bytes of \begindata, 16 for any other line.
     Text(usize),
@@ -41,7 +43,7 @@ pub enum Resting {
     Quoted,
 }
 
-#[derive(Drop)]
+#[derive(Clone, Copy)]
 pub enum Within {
     // So many bytes of \begintext.
     Close(usize),
@@ -58,7 +60,7 @@ pub enum Within {
     ItemQuoted,
 }
 
-#[derive(Drop)]
+#[derive(Clone, Copy)]
 pub enum Pairing {
     // Behind our name, behind its =, before the first pair, and behind a pair and what parts it from the next.
     Named,
@@ -67,14 +69,14 @@ pub enum Pairing {
     Pairs,
 }
 
-#[derive(Drop)]
+#[derive(Clone, Copy)]
 pub enum Counting {
     Sign,
     Digits,
     ToDate,
 }
 
-#[derive(Drop)]
+#[derive(Clone, Copy)]
 pub enum Dating {
     // So many digits of a year, and the year so far.
     Year(usize, u32),

@@ -1,5 +1,7 @@
 // The stored block of a leap table in its two forms: read with the first fault and its place, written whole or not at all, and moved from one form to the other.
 // Its numbers are groups of seven bits, lowest group first, one group to a byte; the top bit marks that more follow.
+#![tactic(auto)]
+
 ghost use Rattle.std.specs.Prelude.{◌≡◌, true, cond, ◌+◌, ◌-◌, ◌<◌, ◌≤◌, ◌^◌, ◌%◌, ltb, length, take, drop, replicate, pos};
 ghost use Rattle.std.proofs.lemmas.List.Edits.{sets};
 ghost use Rattle.std.specs.Int.Signed.{mag};
@@ -18,14 +20,14 @@ use answer::{Refusal, Written};
 use leap::{Table, TableRead};
 
 // The new form opens with the number 0 and that of the month that the table is vouched for; then comes the old form.
-#[derive(Drop)]
+#[derive(Clone, Copy)]
 pub enum Form {
     Old,
     New,
 }
 
 // A number and how many bytes it has, or why there is none.
-#[derive(Drop)]
+#[derive(Clone, Copy)]
 enum NumberAnswer {
     Number(u32, usize),
     Bad(Refusal),
@@ -157,7 +159,7 @@ fn next_offset(before: i32, n: u32) -> i32
 }
 
 // What was read into the two arrays: how many entries, and the number of the month that they are vouched for; or a fault and its place.
-#[derive(Drop)]
+#[derive(Clone, Copy)]
 enum Filled {
     Entries(usize, u32),
     Fault(Refusal, usize),
@@ -225,7 +227,7 @@ fn read_from(
 }
 
 // Where the old block begins, and the number of the month that is given before it; or a fault and its place.
-#[derive(Drop)]
+#[derive(Clone, Copy)]
 enum Opening {
     At(usize, u32),
     Fault(Refusal, usize),
@@ -306,7 +308,7 @@ pub fn read_either(s: &[u8]) -> TableRead
 // ---- writing
 
 // A block: the first `len` of the bytes. The opening has at most two numbers, of four bytes, and a table at most 64, of three each.
-#[derive(Drop)]
+#[derive(Clone, Copy)]
 struct Block {
     bytes: [u8; 196],
     len: usize,
@@ -396,7 +398,7 @@ pub fn write_new_block(t: Table, out: &mut [u8]) -> Written
 // ---- moving
 
 // The length of the block that was written, or a refusal and its place.
-#[derive(Drop)]
+#[derive(Clone, Copy)]
 pub enum MoveAnswer {
     Moved(usize),
     Refused(Refusal, usize),

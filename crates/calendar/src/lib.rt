@@ -1,12 +1,14 @@
 // The Gregorian calendar in months and days, both counted from January of year 0.
 // Dates become days and days become dates; each way asks `months` once, for the days before one month.
+#![tactic(auto)]
+
 ghost use Rattle.std.specs.Prelude.{◌≡◌};
 ghost use Rattle.months.specs.Months.{leap_year, month_length};
 ghost use Rattle.calendar.specs.Days.{day_of_year};
 ghost use Rattle.calendar.specs.Dates.{span_of_day, month_day, like_year, date_in_year};
 
 // A month: its number, the days before it, and its own days.
-#[derive(Drop)]
+#[derive(Clone, Copy)]
 pub struct Span {
     pub number: u32,
     pub start: u64,
@@ -14,14 +16,14 @@ pub struct Span {
 }
 
 // A month's number, and a day of it counted from 1.
-#[derive(Drop)]
+#[derive(Clone, Copy)]
 pub struct MonthDay {
     pub month: u32,
     pub day: u32,
 }
 
 // A month of a year and a day of that month, both counted from 1, if the year has that day.
-#[derive(Drop)]
+#[derive(Clone, Copy)]
 pub enum YearDate {
     On(MonthDay),
     Nothing,

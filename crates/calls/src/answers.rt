@@ -51,7 +51,7 @@ fn next_table(k: usize, line: &[u8], c: Cursor, t: Table) -> Table {
 }
 
 // The state between two lines: whether the input goes on, the bytes held of a line, those of answers, and the table.
-#[derive(Drop)]
+#[derive(Clone, Copy)]
 pub struct State {
     pub open: bool,
     pub len: usize,

@@ -3,7 +3,7 @@ use answer::Refusal;
 use fields::Cursor;
 
 // The numbers from index `from` up to `to`, then the first `size` bytes of the tail. `next` is the cursor after the words that were read.
-#[derive(Drop)]
+#[derive(Clone, Copy)]
 pub struct Said {
     pub next: Cursor,
     pub from: usize,

@@ -6,7 +6,7 @@ use labels::{Label, Reading};
 use leap::Table;
 use stamp::{InstantAnswer, MarkedInstant, MarkedStamp, Stamp, StampAnswer};
 
-#[derive(Drop)]
+#[derive(Clone, Copy)]
 pub struct LabelField {
     pub value: Label,
     pub next: Cursor,

@@ -30,7 +30,7 @@ fn take_pairs(
     c
 }
 
-#[derive(Drop)]
+#[derive(Clone, Copy)]
 pub struct TableField {
     pub table: Table,
     pub next: Cursor,
@@ -147,7 +147,7 @@ fn head_said(call: usize, read: TableRead, used: i64, next: Cursor) -> Said {
 
 // ---- tables read
 
-#[derive(Drop)]
+#[derive(Clone, Copy)]
 pub struct Reading {
     pub read: TableRead,
     pub next: Cursor,

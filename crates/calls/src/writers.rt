@@ -8,7 +8,7 @@ use fields::{Cursor, U32Field};
 use leap::Table;
 
 // What a writer answered, how much of the buffer it was lent, and its marks where it has any.
-#[derive(Drop)]
+#[derive(Clone, Copy)]
 pub struct Wrote {
     pub said: Said,
     pub size: usize,

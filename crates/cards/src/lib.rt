@@ -1,5 +1,7 @@
 // TP cards, 80 columns each: a file of them read into a leap table with the place of its first bad line, and a table written as cards.
 // What a card is, is in specs/Card.antt; what a file of them is, in specs/Promise.antt.
+#![tactic(auto)]
+
 ghost use Rattle.std.specs.Prelude.{◌≡◌, true, ◌+◌, ◌-◌, ◌≤◌, ◌<◌, min, leb, length, get_or, take};
 ghost use Rattle.std.specs.Int.Signed.{mag};
 ghost use Rattle.digits.specs.Decimals.{digit_value, Within, signed_text};
@@ -35,7 +37,7 @@ fn date_text(month: u32) -> [u8; 15]
 // ---- reading a card
 
 // What a line is: one that is passed over, a card with its month and its TAI-UTC, or neither.
-#[derive(Drop)]
+#[derive(Clone, Copy)]
 enum LineAnswer {
     Passed,
     Entry(u32, i32),
@@ -278,7 +280,7 @@ pub fn read_cards(s: &[u8]) -> TableRead
 // ---- writing
 
 // The cards of a table: the first `len` of the bytes, 81 for each of up to 64 entries.
-#[derive(Drop)]
+#[derive(Clone, Copy)]
 struct Cards {
     bytes: [u8; 5184],
     len: usize,

@@ -1,5 +1,7 @@
 // The plain clock: a UTC label of whole seconds, its start and its tick.
 // The tick is the rule by cases and goes through no instant: this crate does not know the conversions, with which the promises join it.
+#![tactic(auto)]
+
 ghost use Rattle.std.specs.Prelude.{◌≡◌, [], ◌∷◌, ◌+◌, ◌≤◌};
 ghost use Rattle.answer.specs.declared.Refusal.TheVariants.{NoSecond as NOSECOND};
 ghost use Rattle.answer.specs.Refusals.{refusing};
@@ -14,14 +16,14 @@ use answer::Refusal;
 use labels::{Judged, Label, Month, Reading};
 use leap::{OffsetPair, Table};
 
-#[derive(Drop)]
+#[derive(Clone, Copy)]
 pub enum TickAnswer {
     Next(Label),
     Refused(Refusal),
 }
 
 // Beside an answer stands its mark: the label's month lies beyond the one that the table is vouched for.
-#[derive(Drop)]
+#[derive(Clone, Copy)]
 pub struct MarkedTick {
     pub answer: TickAnswer,
     pub beyond: bool,

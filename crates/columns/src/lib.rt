@@ -1,5 +1,7 @@
 // Records of columns: lines that are passed over, blank fields, and the plain decimals that fields hold.
 // Every public function is total. A line is cut out of a file by `until` of `lines`; a field is a slice of its line.
+#![tactic(auto)]
+
 ghost use Rattle.std.specs.Prelude.{◌≡◌, ◌≤◌, ◌<◌, ◌^◌, length};
 ghost use Rattle.columns.specs.Columns.{all_blank, is_comment, passed_over};
 ghost use Rattle.columns.specs.Decimals.{is_sign, is_point, BehindOne, Digits, decimal_in, whole_of};
@@ -7,7 +9,7 @@ ghost use Rattle.columns.specs.Decimals.{is_sign, is_point, BehindOne, Digits, d
 use digits::Number;
 
 // Whether it has a minus, the number that all its digits spell, and how many of them stand behind the point.
-#[derive(Drop)]
+#[derive(Clone, Copy)]
 pub enum Decimal {
     Plain(bool, u64, usize),
     Not,
@@ -66,7 +68,7 @@ fn past_point(s: &[u8], i: usize) -> usize
 }
 
 // Where digits end, and what they spell behind those before them.
-#[derive(Drop)]
+#[derive(Clone, Copy)]
 struct Run {
     number: u64,
     end: usize,

@@ -5,7 +5,7 @@ use leap::Table;
 use tablewords::Loaded;
 
 // How many bytes were read, and whether they could be.
-#[derive(Drop)]
+#[derive(Clone, Copy)]
 pub struct Got {
     pub size: usize,
     pub fine: bool,

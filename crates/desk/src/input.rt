@@ -6,7 +6,7 @@ use leap::Table;
 use libc::STDIN_FILENO;
 
 // The state between two lines: whether to go on, the bytes held of a line, those of answers, the lines so far and the table.
-#[derive(Drop)]
+#[derive(Clone, Copy)]
 pub struct State {
     pub open: bool,
     pub len: usize,

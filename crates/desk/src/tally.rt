@@ -1,5 +1,5 @@
 // How many lines there were and how many of them were not good, with the numbers of the first 20 of these.
-#[derive(Drop)]
+#[derive(Clone, Copy)]
 pub struct Tally {
     pub lines: u64,
     pub bad: u64,

@@ -1,19 +1,21 @@
 // Decimals of fixed and free width, both ways, the months' names, one byte read and bytes appended.
 // Every public function is total: a byte past the end is 0, and a text without room is not written.
+#![tactic(auto)]
+
 ghost use Rattle.std.specs.Prelude.{◌≡◌, [], ◌∷◌, ◌+◌, ◌*◌, ◌/◌, ◌%◌, ◌≤◌, ◌<◌, nat_abs, length, get_or};
 ghost use Rattle.laws.specs.Placed.{place};
 ghost use Rattle.digits.specs.Bytes.{same_bytes, Appended, EndsWith};
 ghost use Rattle.digits.specs.Decimals.{is_digit, digit_value, signed, digit_at, digits_of, width_of, decimal_of, decimal_text, signed_text};
 ghost use Rattle.digits.specs.Months.{month_name, month_named};
 
-#[derive(Drop)]
+#[derive(Clone, Copy)]
 pub enum Number {
     Is(u64),
     Bad,
 }
 
 // A text that ends an array: its bytes from `from` on.
-#[derive(Drop)]
+#[derive(Clone, Copy)]
 struct Text {
     bytes: [u8; 21],
     from: usize,
@@ -41,7 +43,7 @@ fn put(out: &mut [u8], at: usize, src: &[u8])
     requires { at + length src.now ≤ length out.old }
     ensures { out.new ≡ place out.old at src.now }
 {
-    bytes::copy(src, &mut out[at..]);
+    out[at..at + src.len()].copy_from_slice(src);
 }
 
 // Appends a text at `at`, whole or not at all, and gives where the next one goes.
@@ -126,7 +128,7 @@ pub fn with_sign(minus: bool, n: u16) -> i32
 const POWERS: [u32; 8] = [100000000, 10000000, 1000000, 100000, 10000, 1000, 100, 10];
 
 // The digit of a power's place, and what is left for the places behind it.
-#[derive(Drop)]
+#[derive(Clone, Copy)]
 struct Taken {
     digit: u8,
     rest: u32,
@@ -242,7 +244,7 @@ pub fn digits(n: u32) -> [u8; 9]
 }
 
 // How many thousand millions a number has, and what is left.
-#[derive(Drop)]
+#[derive(Clone, Copy)]
 struct Parts {
     above: u64,
     below: u32,

@@ -1,5 +1,7 @@
 // The fields of a line: words after blanks, read one after the other as numbers, bytes or doubles.
 // A field that is bad loses the cursor, so that a caller asks once, at the end, whether all were fine.
+#![tactic(auto)]
+
 ghost use Rattle.std.specs.Prelude.{◌≡◌, ◌&&◌, ◌-◌, ◌^◌, ◌≤◌, ◌<◌, eqb, pos, neg_ℤ, length, take, drop};
 ghost use Rattle.std.specs.Float.{binary64};
 ghost use Rattle.std.specs.Float.Ieee.{of_bits, to_bits};
@@ -11,45 +13,45 @@ ghost use Rattle.fields.specs.Fields.{field_of, signed_of, natural_at, integer_a
 use digits::Number;
 
 // Stands at the blank before the next word; at the end, and not fine, once a field was bad.
-#[derive(Drop)]
+#[derive(Clone, Copy)]
 pub struct Cursor {
     pub at: usize,
     pub fine: bool,
 }
 
-#[derive(Drop)]
+#[derive(Clone, Copy)]
 enum Integer {
     Whole(i64),
     NotWhole,
 }
 
 // A field's value and the cursor after it; 0 and a lost cursor where it is bad.
-#[derive(Drop)]
+#[derive(Clone, Copy)]
 pub struct Field {
     pub value: u64,
     pub next: Cursor,
 }
 
-#[derive(Drop)]
+#[derive(Clone, Copy)]
 pub struct U32Field {
     pub value: u32,
     pub next: Cursor,
 }
 
-#[derive(Drop)]
+#[derive(Clone, Copy)]
 pub struct I64Field {
     pub value: i64,
     pub next: Cursor,
 }
 
-#[derive(Drop)]
+#[derive(Clone, Copy)]
 pub struct I32Field {
     pub value: i32,
     pub next: Cursor,
 }
 
 // A word is the bytes from `from` up to `end`.
-#[derive(Drop)]
+#[derive(Clone, Copy)]
 struct Word {
     from: usize,
     end: usize,

@@ -1,5 +1,7 @@
 // A part of a whole as a double, and the part that a double stands for, exactly: the one place that reckons with a double's bits.
 // A whole is factor * 2^shift: a day of 86,400 seconds is 1350000000 * 2^6 microseconds, a second 1953125 * 2^9 nanoseconds.
+#![tactic(auto)]
+
 ghost use Rattle.std.specs.Prelude.{◌≡◌, ◌*◌, ◌^◌, ◌<◌, ◌≤◌, from_bits};
 ghost use Rattle.std.specs.Float.{binary64};
 ghost use Rattle.fraction.specs.Fraction.{fraction_of, is_fraction, is_half, nearest_of, nearest_at};

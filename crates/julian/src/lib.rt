@@ -1,5 +1,7 @@
 // Two-part Julian dates: the pair of doubles that is written for an instant, and the instant that a pair is read as.
 // Between a pair and an instant stand a day, counted from year 0, and a microsecond of it: the fraction is of that day's own length.
+#![tactic(auto)]
+
 ghost use Rattle.std.specs.Prelude.{◌≡◌, ◌*◌, false, T};
 ghost use Rattle.leap.specs.Leap.{tabled, vouched_to};
 ghost use Rattle.julian.specs.Midnight.{midnight_in_years, day_number};
@@ -11,20 +13,20 @@ use leap::Table;
 use stamp::{DayTime, MarkedInstant, Scale, ScaleAnswer, ShownAnswer};
 
 // The midnight ends in .5, and the fraction is at least 0 and below 1.
-#[derive(Drop)]
+#[derive(Clone, Copy)]
 pub struct JulianDate {
     pub midnight: f64,
     pub fraction: f64,
 }
 
-#[derive(Drop)]
+#[derive(Clone, Copy)]
 pub enum JulianAnswer {
     Dated(JulianDate),
     Refused(Refusal),
 }
 
 // Beside the answer stands its mark, as beside those of `stamp`.
-#[derive(Drop)]
+#[derive(Clone, Copy)]
 pub struct MarkedPair {
     pub answer: JulianAnswer,
     pub beyond: bool,

@@ -1,5 +1,7 @@
 // A leap-seconds text kernel: read with the first fault and its place, written whole or not at all.
 // What a kernel is, is in `grammar`; the reader steps through it byte by byte with `automaton`.
+#![tactic(auto)]
+
 ghost use Rattle.std.specs.Prelude.{◌≡◌, true, ◌+◌, ◌<◌, ◌≤◌, length, take};
 ghost use Rattle.std.specs.Int.Signed.{mag};
 ghost use Rattle.digits.specs.Bytes.{Placed};
@@ -135,7 +137,7 @@ pub fn read_kernel(s: &[u8]) -> TableRead
 // ---- writing
 
 // The kernel of a table: the first `len` of the bytes. It has at most 31 bytes before its pairs, 16 for the first, 37 for each other, and 14 behind them.
-#[derive(Drop)]
+#[derive(Clone, Copy)]
 struct Kernel {
     bytes: [u8; 2392],
     len: usize,

@@ -1,5 +1,7 @@
 // The bytes of a kernel by kind, and what is kept of a word, a number, a year or a month while it is read.
 // No function needs a precondition: what is kept stays within its type for every byte.
+#![tactic(auto)]
+
 ghost use Rattle.std.specs.Prelude.{◌≡◌, cond, ◌-◌, ◌≤◌};
 ghost use Rattle.kinds.specs.Kinds.{is_white, is_gap, is_between, is_run, is_name, upper, begin_data, begin_text, ours};
 ghost use Rattle.kinds.specs.Parts.{matched, grown, years_begin, grown_year, goes_on, month_on, month_number};

@@ -1,5 +1,7 @@
 // Labels and readings: which exist, how long a label's minute and a day are, and the label of a second of a month.
 // No table and no scale is known here: what they say of a month and of the next comes in as two offsets.
+#![tactic(auto)]
+
 ghost use Rattle.std.specs.Prelude.{◌≡◌, ◌≤◌};
 ghost use Rattle.labels.specs.Labels.{month_of, real_year, real_month, day_in, real_clock, judged, last_minute, in_last_minute, minute_in};
 ghost use Rattle.labels.specs.Lengths.{seconds_in};
@@ -8,7 +10,7 @@ ghost use Rattle.labels.specs.Back.{minute_of, day_of, in_day, label_of};
 use answer::Refusal;
 
 // A calendar label of whole seconds.
-#[derive(Drop)]
+#[derive(Clone, Copy)]
 pub struct Label {
     pub year: u32,
     pub month: u32,
@@ -18,28 +20,28 @@ pub struct Label {
     pub second: u32,
 }
 
-#[derive(Drop)]
+#[derive(Clone, Copy)]
 pub struct Reading {
     pub label: Label,
     pub micro: u32,
 }
 
 // A month, counted from January of year 0, and how many days it has.
-#[derive(Drop)]
+#[derive(Clone, Copy)]
 pub struct Month {
     pub number: u32,
     pub days: u32,
 }
 
 // The month of a reading, or the first thing that is wrong with year, month, day or clock.
-#[derive(Drop)]
+#[derive(Clone, Copy)]
 pub enum Judged {
     Real(Month),
     Refused(Refusal),
 }
 
 // A second of a month, counted from its beginning; the month with the days before it and its own.
-#[derive(Drop)]
+#[derive(Clone, Copy)]
 pub struct Place {
     pub month: u32,
     pub start: u64,

@@ -1,5 +1,7 @@
 // The leap table: which tables are accepted, TAI-UTC by months, and the table of Bulletin C.
 // Inside, the arrays are lent: a struct that holds them is copied at every call that takes it.
+#![tactic(auto)]
+
 mod bulletin;
 
 ghost use Rattle.std.specs.Prelude.{◌≡◌, ◌+◌, ◌≤◌, ◌<◌, leb};
@@ -12,7 +14,7 @@ use answer::Refusal;
 
 // `count` entries, each a month (January 1972 is 0) and TAI-UTC in seconds from its first day. Unused places are zero.
 // `vouched` is the last month that the table is good for, plus one; 0 where none is given.
-#[derive(Drop)]
+#[derive(Clone, Copy)]
 pub struct Table {
     pub count: usize,
     pub months: [u32; 64],
@@ -46,14 +48,14 @@ pub fn tabled<'a>(
 
 // ---- what a reader of tables answers
 
-#[derive(Drop)]
+#[derive(Clone, Copy)]
 pub enum TableAnswer {
     Read,
     Refused(Refusal, usize),
 }
 
 // The table is all zero on a refusal.
-#[derive(Drop)]
+#[derive(Clone, Copy)]
 pub struct TableRead {
     pub answer: TableAnswer,
     pub table: Table,
@@ -239,7 +241,7 @@ pub fn offset_at<'a>(count: usize, months: &'a [u32; 64], offsets: &'a [i32; 64]
 }
 
 // TAI-UTC in a month and in the month after it.
-#[derive(Drop)]
+#[derive(Clone, Copy)]
 pub struct OffsetPair {
     pub here: i32,
     pub next: i32,

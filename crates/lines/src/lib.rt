@@ -1,5 +1,7 @@
 // Lines as programs read and write them: up to a byte, behind blanks, the lines of a text, the front of a buffer, lines out of chunks, and bytes as pairs of hex digits.
 // Every public function is total.
+#![tactic(auto)]
+
 ghost use Rattle.std.specs.Prelude.{◌≡◌, [], ◌∷◌, ◌+◌, ◌*◌, ◌/◌, ◌≤◌, ◌<◌, min, length, drop};
 ghost use Rattle.laws.specs.Placed.{place};
 ghost use Rattle.digits.specs.Bytes.{Counts, Appended};
@@ -75,7 +77,7 @@ pub fn front(s: &[u8], n: usize) -> usize
 // ---- lines out of chunks
 
 // Where the chunk goes on, how many bytes of the line are held, and whether its end was there.
-#[derive(Drop)]
+#[derive(Clone, Copy)]
 pub struct Cut {
     pub at: usize,
     pub len: usize,

@@ -1,5 +1,7 @@
 // What `ticks` prints, as a function from the bytes of its input to the bytes of its output.
 // Three lines are judged in their order, and nothing is stored before all three are: the first bad one decides.
+#![tactic(auto)]
+
 ghost use Rattle.std.specs.Prelude.{◌≡◌, true, [], ◌++◌, ◌+◌, ◌-◌, ◌*◌, ◌≤◌, pos, length, take, drop};
 ghost use Rattle.std.specs.Int.Signed.{quot_z};
 ghost use Rattle.answer.specs.Buffers.{written, buffer_after};
@@ -22,14 +24,14 @@ use text::TextAnswer;
 // The header's 8 bytes and at most 42 for each of 3,600 lines.
 pub const MOST: usize = 151208;
 
-#[derive(Drop)]
+#[derive(Clone, Copy)]
 pub enum CountAnswer {
     Count(usize),
     NoCount(Refusal),
 }
 
 // A line is the bytes from `from` up to `end`.
-#[derive(Drop)]
+#[derive(Clone, Copy)]
 pub struct Line {
     pub from: usize,
     pub end: usize,

@@ -1,4 +1,6 @@
 // More runs of `listing`: each of the inputs on standard input is listed. A `%` and a line end stand after every one.
+#![tactic(auto)]
+
 ghost use Rattle.std.specs.Prelude.{◌<◌, length};
 
 use answer::Written;

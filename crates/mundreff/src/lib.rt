@@ -1,5 +1,7 @@
 // The C interface of include/mundreff.h: each call answers the refusal's number, 0 on success, and writes every output on every call.
 // A call takes the table out of its words, asks the crate whose work it is, and stores what `Answers` of specs/ says of the answer.
+#![tactic(auto)]
+
 ghost use Rattle.std.specs.Prelude.{◌≡◌};
 ghost use Rattle.answer.specs.Buffers.{written_results};
 ghost use Rattle.leap.specs.Leap.{bulletin_c};

@@ -1,5 +1,7 @@
 // Texts put into a buffer one behind another, as much of each as it holds; the parts of a line; the refusals in words.
 // Every public function is total.
+#![tactic(auto)]
+
 ghost use Rattle.std.specs.Prelude.{◌≡◌, ◌≤◌, length};
 ghost use Rattle.digits.specs.Decimals.{decimal_text, signed_text};
 ghost use Rattle.lines.specs.Words.{line_of};
@@ -11,7 +13,7 @@ ghost use Rattle.phrases.specs.Texts.{names as Texts·names, sentences as Texts�
 use answer::Refusal;
 
 // Where the next text goes, and whether what was said is good, which a refusal is not.
-#[derive(Drop)]
+#[derive(Clone, Copy)]
 pub struct Said {
     pub at: usize,
     pub good: bool,

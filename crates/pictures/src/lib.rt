@@ -1,4 +1,6 @@
 // Pictures: the three forms of a text, from fields to bytes and back. A picture knows no table and no scale.
+#![tactic(auto)]
+
 ghost use Rattle.std.specs.Prelude.{◌≡◌, [], ◌++◌, ◌+◌, ◌-◌, min, ◌≤◌, ◌<◌, length};
 ghost use Rattle.answer.specs.Buffers.{written, buffer_after};
 ghost use Rattle.digits.specs.Bytes.{Placed};
@@ -10,7 +12,7 @@ ghost use Rattle.pictures.specs.Reading.{as_shown, like, right_length, fields_in
 use answer::Written;
 
 // The date of a picture: month and day, day of the year, or month by name and day.
-#[derive(Drop)]
+#[derive(Clone, Copy)]
 pub enum Date {
     Numbered(u32, u32),
     OfYear(u32),
@@ -18,7 +20,7 @@ pub enum Date {
 }
 
 // What a text shows: its date says its picture, and `digits` are those after the point.
-#[derive(Drop)]
+#[derive(Clone, Copy)]
 pub struct Fields {
     pub year: u32,
     pub date: Date,
@@ -29,7 +31,7 @@ pub struct Fields {
     pub micro: u32,
 }
 
-#[derive(Drop)]
+#[derive(Clone, Copy)]
 pub enum FieldsAnswer {
     Picture(Fields),
     NoPicture,
@@ -223,7 +225,7 @@ fn fills(pattern: &[u8], n: usize, text: &[u8], t: &mut [u8]) -> bool
     if !right_length(n, text.len()) {
         return false;
     }
-    bytes::copy(text, t);
+    t[..text.len()].copy_from_slice(text);
     is_like(pattern, t)
 }
 

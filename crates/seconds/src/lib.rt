@@ -1,5 +1,7 @@
 // Microseconds as seconds with six digits, and seconds as they are given.
 // Every public function is total.
+#![tactic(auto)]
+
 ghost use Rattle.std.specs.Prelude.{◌≡◌};
 ghost use Rattle.digits.specs.Decimals.{Within};
 ghost use Rattle.phrases.specs.Puts.{Puts};
@@ -8,7 +10,7 @@ ghost use Rattle.seconds.specs.Seconds.{sign_text, micros_text, seconds_text, fr
 use digits::Number;
 
 // So many microseconds on or back; none where no number of seconds was given.
-#[derive(Drop)]
+#[derive(Clone, Copy)]
 pub enum Move {
     On(u64),
     Back(u64),

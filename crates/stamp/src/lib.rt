@@ -1,5 +1,7 @@
 // Scales and stamps: the instant of a stamp, and the stamp of an instant; the day that a scale shows, and the instant of a microsecond of a day.
 // An instant is a count of TAI microseconds from 2000-01-01 12:00:00 TAI; a scale's own axis counts microseconds from year 0.
+#![tactic(auto)]
+
 ghost use Rattle.std.specs.Prelude.{◌≡◌, true, false, [], ◌∷◌, ◌+◌, ◌*◌, ◌/◌, ◌≤◌, pos, negsuc, ◌-ℤ◌, ◌≤ℤ◌};
 ghost use Rattle.answer.specs.declared.Refusal.TheVariants.{NoSecond as NOSECOND};
 ghost use Rattle.answer.specs.Refusals.{refusing};
@@ -20,7 +22,7 @@ use answer::Refusal;
 use labels::{Judged, Month, Place, Reading};
 use leap::{OffsetPair, Table};
 
-#[derive(Drop)]
+#[derive(Clone, Copy)]
 pub enum Scale {
     Utc,
     Tai,
@@ -29,46 +31,46 @@ pub enum Scale {
 }
 
 // A reading never goes without its scale.
-#[derive(Drop)]
+#[derive(Clone, Copy)]
 pub struct Stamp {
     pub scale: Scale,
     pub reading: Reading,
 }
 
-#[derive(Drop)]
+#[derive(Clone, Copy)]
 pub enum ScaleAnswer {
     On(Scale),
     Refused(Refusal),
 }
 
-#[derive(Drop)]
+#[derive(Clone, Copy)]
 pub enum InstantAnswer {
     At(i64),
     Refused(Refusal),
 }
 
-#[derive(Drop)]
+#[derive(Clone, Copy)]
 pub enum StampAnswer {
     Stamped(Stamp),
     Refused(Refusal),
 }
 
 // What a scale shows: a day, counted from year 0, the microsecond of it, and how many seconds the day has.
-#[derive(Drop)]
+#[derive(Clone, Copy)]
 pub struct DayTime {
     pub day: u32,
     pub micro: u64,
     pub seconds: u32,
 }
 
-#[derive(Drop)]
+#[derive(Clone, Copy)]
 pub enum ShownAnswer {
     Shown(DayTime),
     Refused(Refusal),
 }
 
 // A day and its month, both counted from year 0, and TAI less the scale in it, in seconds.
-#[derive(Drop)]
+#[derive(Clone, Copy)]
 pub struct DayStart {
     pub number: u64,
     pub month: u64,
@@ -76,7 +78,7 @@ pub struct DayStart {
 }
 
 // A day, the next one, and how many seconds lie between their midnights.
-#[derive(Drop)]
+#[derive(Clone, Copy)]
 pub struct DaySpan {
     pub this: DayStart,
     pub next: DayStart,
@@ -84,40 +86,40 @@ pub struct DaySpan {
 }
 
 // Beside each answer stands its mark: on UTC, whether the month lies beyond the one that the table is vouched for.
-#[derive(Drop)]
+#[derive(Clone, Copy)]
 pub struct MarkedInstant {
     pub answer: InstantAnswer,
     pub beyond: bool,
 }
 
-#[derive(Drop)]
+#[derive(Clone, Copy)]
 pub struct MarkedStamp {
     pub answer: StampAnswer,
     pub beyond: bool,
 }
 
-#[derive(Drop)]
+#[derive(Clone, Copy)]
 pub struct MarkedShown {
     pub answer: ShownAnswer,
     pub beyond: bool,
 }
 
 // A second of a month, and how many seconds its day has.
-#[derive(Drop)]
+#[derive(Clone, Copy)]
 struct Spot {
     place: Place,
     seconds: u32,
 }
 
 // Where an instant falls on its scale: a second, and the microsecond of that.
-#[derive(Drop)]
+#[derive(Clone, Copy)]
 struct Moment {
     scale: Scale,
     spot: Spot,
     micro: u32,
 }
 
-#[derive(Drop)]
+#[derive(Clone, Copy)]
 enum MomentAnswer {
     In(Moment),
     Refused(Refusal),

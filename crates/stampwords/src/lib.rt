@@ -1,5 +1,7 @@
 // What a desk is answered to requests about stamps: from one to another, a pass, one moved or on another clock.
 // Every public function is total, and says a reply or a refusal in words.
+#![tactic(auto)]
+
 ghost use Rattle.std.specs.Prelude.{◌≡◌, ◌||◌, ◌≤◌, ◌-ℤ◌};
 ghost use Rattle.labels.specs.Labels.{month_of};
 ghost use Rattle.phrases.specs.Puts.{Puts};
@@ -17,20 +19,20 @@ use stamp::{Scale, Stamp};
 use text::{MarkedText, TextAnswer};
 
 // Seconds added between two stamps of one clock, negative where they were taken out; or the clocks differ.
-#[derive(Drop)]
+#[derive(Clone, Copy)]
 pub enum Steps {
     Count(i64),
     OtherClock,
 }
 
-#[derive(Drop)]
+#[derive(Clone, Copy)]
 pub struct Span {
     pub micros: i64,
     pub steps: Steps,
     pub beyond: bool,
 }
 
-#[derive(Drop)]
+#[derive(Clone, Copy)]
 pub enum SpanAnswer {
     Lasts(Span),
     First(Refusal),

@@ -1,5 +1,7 @@
 // A leap table in words, and loaded anew: from a block in hex, from a kernel or cards, or vouched for up to a month.
 // Every public function is total.
+#![tactic(auto)]
+
 ghost use Rattle.std.specs.Prelude.{◌≡◌, ◌≤◌, ◌<◌, min};
 ghost use Rattle.leap.specs.Leap.{top};
 ghost use Rattle.digits.specs.Decimals.{Within};
@@ -15,7 +17,7 @@ use leap::{Table, TableAnswer, TableRead};
 use phrases::Said;
 
 // What was said, and the table from then on.
-#[derive(Drop)]
+#[derive(Clone, Copy)]
 pub struct Loaded {
     pub said: Said,
     pub table: Table,

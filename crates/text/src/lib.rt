@@ -1,5 +1,7 @@
 // Text in three pictures: read on a scale, and written from an instant.
 // `pictures` has the fields of a text and the text of fields; here they are judged, and taken from a stamp.
+#![tactic(auto)]
+
 ghost use Rattle.std.specs.Prelude.{◌≡◌, false};
 ghost use Rattle.calendar.specs.Dates.{date_in_year};
 ghost use Rattle.leap.specs.Leap.{tabled};
@@ -15,20 +17,20 @@ use leap::Table;
 use pictures::{Date, Fields, FieldsAnswer};
 use stamp::{InstantAnswer, Scale, ScaleAnswer, Stamp, StampAnswer};
 
-#[derive(Drop)]
+#[derive(Clone, Copy)]
 pub enum TextAnswer {
     Read { instant: i64, stamp: Stamp },
     Refused(Refusal),
 }
 
 // Beside each answer stands its mark, as beside those of `stamp`.
-#[derive(Drop)]
+#[derive(Clone, Copy)]
 pub struct MarkedText {
     pub answer: TextAnswer,
     pub beyond: bool,
 }
 
-#[derive(Drop)]
+#[derive(Clone, Copy)]
 pub struct MarkedWritten {
     pub answer: Written,
     pub beyond: bool,

@@ -1,9 +1,11 @@
 // Reads three lines and nothing past the third, and prints what `listing` says of them.
 // That 3,075 bytes are enough is `enough_read` of listing's promise; past a third line's end there is nothing that it looks at.
+#![tactic(auto)]
+
 use answer::Written;
 use libc::{STDERR_FILENO, STDIN_FILENO, STDOUT_FILENO};
 
-#[derive(Drop)]
+#[derive(Clone, Copy)]
 pub enum Got {
     Byte(u8),
     End,

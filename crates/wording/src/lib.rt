@@ -1,5 +1,7 @@
 // What the desk answers to a line, as a function of its bytes, of the table and of the file that it names.
 // Every public function is total.
+#![tactic(auto)]
+
 ghost use Rattle.std.specs.Prelude.{◌≡◌, ◌-◌, min, ◌≤◌, length, drop};
 ghost use Rattle.phrases.specs.Parts.{behind as Parts·behind};
 ghost use Rattle.phrases.specs.Puts.{Puts};
@@ -15,7 +17,7 @@ use leap::Table;
 use phrases::Said;
 use tablewords::Loaded;
 
-#[derive(Drop)]
+#[derive(Clone, Copy)]
 pub enum Request {
     Between,
     Show,
@@ -30,7 +32,7 @@ pub enum Request {
 }
 
 // The bytes of a line from `from` up to `end`.
-#[derive(Drop)]
+#[derive(Clone, Copy)]
 pub struct Part {
     pub from: usize,
     pub end: usize,

@@ -1,4 +1,6 @@
 // A leap table as C has it, 130 words of 32 bits, both ways.
+#![tactic(auto)]
+
 ghost use Rattle.std.specs.Prelude.{◌≡◌, map, length};
 ghost use Rattle.laws.specs.Placed.{place};
 ghost use Rattle.words.specs.Words.{offset_from, offset_word, words_at, table_from, table_words};

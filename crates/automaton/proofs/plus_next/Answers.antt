@@ -1,0 +1,11 @@
+-- `automaton::plus_next` meets its contract, test by test.
+use mathlib.Core.Path.{◌≡◌, refl, ap, ◌∙◌}
+use mathlib.Core.Bool.{cond}
+use lib.Dec.{eqb}
+use Rattle.automaton.specs.Ways.{reached}
+use Rattle.automaton.proofs.Ways.{led1}
+use Rattle.automaton.proofs.plus_next.Goals as goal
+
+pub returns : goal.returns
+unfolding reached
+returns c = let b = c.args.b in let e : c.pick.result ≡ cond (eqb b 61) 10 0 = rw c.pick.ensures in ap (reached at b) e ∙ led1 at b (eqb b 61) 10 0 refl

@@ -1,0 +1,34 @@
+-- Five texts on a blank card.
+use mathlib.Core.Path.{◌≡◌}
+use native.Mathlib.Omega.{arith}
+use borrow.Author.Rules.{rules}
+use lib.ListN.{length}
+use mir.Syntax.{w64}
+use mir.Facts.{to_z-of_z, sfits_widen}
+use Rattle.laws.proofs.Machine.{read1, widened}
+use Rattle.digits.specs.Decimals.{signed_text}
+use Rattle.digits.proofs.Short.{signed_short}
+use Rattle.cards.proofs.Storing.{card_filled}
+use Rattle.cards.proofs.image.Goals as goal
+use Rattle.cards.proofs.image.Goals.{After-signed_width}
+
+width : (c : goal.After-signed_width) → c.signed_width.result ≡ length (signed_text c.args.offset)
+width c = read1 (λ z. length (signed_text z)) c.ranges.offset c.signed_width.ensures
+
+pub overflow_sub-signed_width : goal.overflow_sub-signed_width
+overflow_sub-signed_width c = let s = c in omega (arith, width (goal.at.overflow_sub-signed_width c).After-signed_width, signed_short s.args.offset s.requires.1)
+
+pub overflow_cast-offset : goal.overflow_cast-offset
+overflow_cast-offset c = let f = c.ranges.offset in rw (to_z-of_z f) (sfits_widen tt f)
+
+pub returns : goal.returns
+returns c =
+    let kind = c in
+    let date = kind in
+    let tdt = date in
+    let point = tdt in
+    let number = point in
+    let w = number in
+    let s = w in
+    rw (kind.append-4.ensures.text, date.append-3.ensures.text, tdt.append-2.ensures.text, point.append.ensures.text, number.append_signed.ensures.text, width (goal.at.returns c).After-signed_width, widened w64 tt s.ranges.offset, w.date_text-date.ensures)
+    (card_filled (s.args.month, s.args.offset) s.requires.1)

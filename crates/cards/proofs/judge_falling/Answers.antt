@@ -1,0 +1,56 @@
+-- One entry after another from the last.
+use Prim.Native.Nat.{◌+◌, ◌-◌}
+use mathlib.Core.Path.{refl, sym, ap, subst, ◌∙◌}
+use mathlib.Core.List.{reverse}
+use lib.ListN.{set, take}
+use native.Mathlib.Omega.{arith}
+use borrow.Author.Rules.{rules}
+use mir.Facts.{to_z-of_z}
+use Rattle.leap.specs.Leap.{tabled}
+use Rattle.leap.specs.Entries.{entry, entries}
+use Rattle.leap.specs.Readers.{judged}
+use Rattle.leap.proofs.Entries.{Holds}
+use Rattle.cards.proofs.Turned.{Turning, turning_more, turning_end}
+use Rattle.cards.proofs.judge_falling.Goals as goal
+
+pub loop-k-init : goal.loop-k-init
+loop-k-init c = record { months_are = refl; offsets_are = refl }
+
+pub offset_bounds-months-count : goal.offset_bounds-months-count
+offset_bounds-months-count c = omega (arith, c.requires)
+
+pub bounds-months-count : goal.bounds-months-count
+bounds-months-count c = omega (arith, c.requires)
+
+pub offset_bounds-m-k : goal.offset_bounds-m-k
+offset_bounds-m-k c = omega (arith, c.requires)
+
+pub bounds-m-k : goal.bounds-m-k
+bounds-m-k c = omega (arith, c.requires)
+
+pub offset_bounds-offsets-count : goal.offset_bounds-offsets-count
+offset_bounds-offsets-count c = omega (arith, c.requires)
+
+pub bounds-offsets-count : goal.bounds-offsets-count
+bounds-offsets-count c = omega (arith, c.requires)
+
+pub offset_bounds-o-k : goal.offset_bounds-o-k
+offset_bounds-o-k c = omega (arith, c.requires)
+
+pub bounds-o-k : goal.bounds-o-k
+bounds-o-k c = omega (arith, c.requires)
+
+pub overflow_add-k : goal.overflow_add-k
+overflow_add-k c = omega (arith, c.requires)
+
+pub loop-k-preserved : goal.loop-k-preserved
+loop-k-preserved c = let l = c in
+    let g = l in
+    let a = g.args in
+    let t = tabled a.count a.months.now a.offsets.now in
+    subst (λ z. Holds (set g.loop-k.m g.loop-k.k (entry t (a.count - 1 - g.loop-k.k)).0) (set g.loop-k.o g.loop-k.k z) (take (g.loop-k.k + 1) (reverse (entries t))))
+    (sym (to_z-of_z (record { sfits = c.o-1.given })))
+    (turning_more t g.loop-k.m g.loop-k.o g.loop-k.k g.loop-k.invariant l.loop-k-test.true g.requires)
+
+pub returns : goal.returns
+returns c = let l = c in let a = l.args in c.judge.ensures ∙ ap judged (turning_end (tabled a.count a.months.now a.offsets.now) l.loop-k.m l.loop-k.o l.loop-k.k l.loop-k.invariant l.loop-k-test.false)

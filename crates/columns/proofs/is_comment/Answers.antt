@@ -1,0 +1,9 @@
+-- Column 1 is looked at.
+use mathlib.Core.Path.{ap}
+use mathlib.Core.Bool.{◌||◌}
+use borrow.Author.Rules.{rules}
+use lib.Dec.{eqb}
+use Rattle.columns.proofs.is_comment.Goals as goal
+
+pub returns : goal.returns
+returns c. = eqb b 42 || (eqb b 67 || eqb b 99)) c.byte_at-first.ensures

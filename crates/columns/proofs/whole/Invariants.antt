@@ -1,0 +1,11 @@
+use mathlib.Core.Path.{◌≡◌, refl, ap, ◌∙◌}
+use native.Mathlib.Omega.{arith}
+use Rattle.columns.specs.Decimals.{whole_of}
+use Rattle.columns.proofs.Wholes.{whole_not, whole_less, whole_zero, whole_one}
+use Rattle.columns.proofs.whole.Given as goal
+
+abbrev pub invariant-loop-left : goal.invariant-loop-left
+invariant-loop-left l = whole_of l.n l.left ≡ whole_of l.number l.places
+
+abbrev pub decreases-loop-left : goal.decreases-loop-left
+decreases-loop-left l = l.left

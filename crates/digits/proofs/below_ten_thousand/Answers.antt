@@ -1,0 +1,19 @@
+-- Three powers are taken away; the five places before them are zeros.
+use Prim.Native.Nat.{ℕ}
+use mathlib.Core.List.{List, ◌++◌}
+use mathlib.Core.Path.{sym, ap, ◌∙◌}
+use native.Mathlib.Nat.{mod-eq_of_lt}
+use borrow.Author.Rules.{rules}
+use Rattle.digits.specs.Decimals.{digits_of}
+use Rattle.digits.proofs.Taking.{zeros_before, next, last}
+use Rattle.digits.proofs.below_ten_thousand.Goals as goal
+
+pub returns : goal.returns
+returns c =
+    let n = c.args.n in
+    let l = c.requires in
+    ap (λ (l : List ℕ). digits_of 5 0 ++ l)
+    (next 3 n (sym (mod-eq_of_lt l)) c.take_away-f.ensures (λ e.
+    next 2 n e c.take_away-g.ensures (λ e.
+    next 1 n e c.take_away-h.ensures (last n))))
+    ∙ zeros_before 5 4 l

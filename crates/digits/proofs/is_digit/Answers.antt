@@ -1,0 +1,10 @@
+-- Low end, then high end.
+use mathlib.Core.Path.{refl}
+use Rattle.digits.proofs.Decimals.{digit_low, digit_rest}
+use Rattle.digits.proofs.is_digit.Goals as goal
+
+pub returns-then-b-lt48 : goal.returns-then-b-lt48
+returns-then-b-lt48 c = digit_low _ c.if-b-lt48.true
+
+pub returns : goal.returns
+returns c = digit_rest _ c.if-b-lt48.false refl

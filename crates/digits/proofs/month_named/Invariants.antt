@@ -1,0 +1,14 @@
+use Prim.Native.Nat.{◌≤◌}
+use mathlib.Core.List.{[], ◌∷◌}
+use mathlib.Core.Path.{◌≡◌, refl, sym, ◌∙◌}
+use native.Mathlib.Omega.{arith}
+use borrow.Author.Rules.{rules}
+use Rattle.digits.specs.Months.{among_months, month_named}
+use Rattle.digits.proofs.Months.{named_yes, named_no}
+use Rattle.digits.proofs.month_named.Given as goal
+
+abbrev pub invariant-loop-month : goal.invariant-loop-month
+invariant-loop-month l = (l.month ≤ 12) × (among_months l.month (l.a ∷ l.b ∷ l.c ∷ []) ≡ month_named (l.a ∷ l.b ∷ l.c ∷ []))
+
+abbrev pub decreases-loop-month : goal.decreases-loop-month
+decreases-loop-month l = l.month

@@ -1,0 +1,11 @@
+use Prim.Native.Nat.{ℕ, ◌+◌, ◌-◌, ◌*◌, ◌≤◌}
+use mathlib.Core.Path.{◌≡◌, ap, ◌∙◌}
+use native.Mathlib.Omega.{arith}
+use Rattle.digits.proofs.Taking.{taken, once_more}
+use Rattle.digits.proofs.take_away.Given as goal
+
+abbrev pub invariant-loop-digit : goal.invariant-loop-digit
+invariant-loop-digit l = (48 ≤ l.digit) × (l.digit ≤ 56) × (l.n ≡ (l.digit - 48) * l.power + l.rest)
+
+abbrev pub decreases-loop-digit : goal.decreases-loop-digit
+decreases-loop-digit l = 56 - l.digit

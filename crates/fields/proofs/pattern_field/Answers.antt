@@ -1,0 +1,13 @@
+-- The field is what its word gives, at the word's end.
+use borrow.Author.Rules.{rules}
+use Rattle.fields.specs.Words.{pattern_of}
+use Rattle.fields.specs.Fields.{field_of, pattern_at}
+use Rattle.fields.proofs.Fields.{field_is}
+use Rattle.fields.proofs.pattern_field.Goals as goal
+
+pub returns : goal.returns
+unfolding pattern_at
+returns c =
+    let a = c.args in
+    let n = c.next_word-w.ensures in
+    field_is pattern_of field_of a.line.now a.c c.filled.ensures c.bits_of-bits.ensures n.0 n.1

@@ -1,0 +1,41 @@
+-- Range by range.
+use native.Mathlib.Omega.{arith}
+use borrow.Author.Tests.{le-leb, lt-leb}
+use Rattle.lines.specs.Pairs.{nibble}
+use borrow.Author.Rules.{rules}
+use Rattle.lines.proofs.hex_digit.Goals as goal
+
+pub returns-then-b-lt48 : goal.returns-then-b-lt48
+unfolding nibble
+returns-then-b-lt48 c =
+    let b = c.args.b in (rw (lt-leb 48 b (omega arith), lt-leb 65 b (omega arith), lt-leb 97 b (omega arith)), search rules)
+
+pub returns-then-b-le57 : goal.returns-then-b-le57
+unfolding nibble
+returns-then-b-le57 c =
+    let b = c.args.b in (rw (le-leb 48 b (omega arith), le-leb b 57 (omega arith)), search rules)
+
+pub returns-then-b-lt65 : goal.returns-then-b-lt65
+unfolding nibble
+returns-then-b-lt65 c =
+    let b = c.args.b in (rw (le-leb 48 b (omega arith), lt-leb b 57 (omega arith), lt-leb 65 b (omega arith), lt-leb 97 b (omega arith)), search rules)
+
+pub returns-then-b-le70 : goal.returns-then-b-le70
+unfolding nibble
+returns-then-b-le70 c =
+    let b = c.args.b in (rw (le-leb 48 b (omega arith), lt-leb b 57 (omega arith), le-leb 65 b (omega arith), le-leb b 70 (omega arith)), search rules)
+
+pub returns-then-b-lt97 : goal.returns-then-b-lt97
+unfolding nibble
+returns-then-b-lt97 c =
+    let b = c.args.b in (rw (le-leb 48 b (omega arith), lt-leb b 57 (omega arith), le-leb 65 b (omega arith), lt-leb b 70 (omega arith), lt-leb 97 b (omega arith)), search rules)
+
+pub returns-then-b-le102 : goal.returns-then-b-le102
+unfolding nibble
+returns-then-b-le102 c =
+    let b = c.args.b in (rw (le-leb 48 b (omega arith), lt-leb b 57 (omega arith), le-leb 65 b (omega arith), lt-leb b 70 (omega arith), le-leb 97 b (omega arith), le-leb b 102 (omega arith)), search rules)
+
+pub returns : goal.returns
+unfolding nibble
+returns c =
+    let b = c.args.b in (rw (le-leb 48 b (omega arith), lt-leb b 57 (omega arith), le-leb 65 b (omega arith), lt-leb b 70 (omega arith), le-leb 97 b (omega arith), lt-leb b 102 (omega arith)), search rules)

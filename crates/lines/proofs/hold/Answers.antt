@@ -1,0 +1,15 @@
+-- No room, or a front of the piece that has room.
+use native.Mathlib.Omega.{arith}
+use borrow.Author.Rules.{rules}
+use Rattle.lines.proofs.Cuts.{held_full, held_more}
+use Rattle.lines.proofs.hold.Goals as goal
+
+pub returns-then-line-held : goal.returns-then-line-held
+returns-then-line-held c =
+    let a = c.args in held_full a.line.now a.held a.piece.now (omega arith)
+
+pub returns : goal.returns
+returns c =
+    let p = c in
+    let a = p.args in
+    held_more a.line.now a.held a.piece.now (omega arith) p.front-n.ensures.1 p.append.ensures

@@ -1,0 +1,41 @@
+-- `from` is where line `done` begins, and the lines from there on are those that are left.
+use mathlib.Core.Path.{◌≡◌, refl, ap, ◌∙◌}
+use Prim.Native.Nat.{suc, ◌+◌, ◌-◌, ◌≤◌}
+use native.Mathlib.Omega.{arith}
+use native.Mathlib.Numerals.{add-one}
+use borrow.Author.Rules.{rules}
+use lib.ListN.{length, drop}
+use Rattle.lines.specs.Words.{past, line_of, line_start}
+use Rattle.lines.proofs.Lines.{line_next}
+use Rattle.lines.proofs.line_start.Goals as goal
+
+pub loop-done-init : goal.loop-done-init
+unfolding line_start
+loop-done-init c =
+    let a = c.args in
+    let z : a.k - 0 ≡ a.k = omega arith in
+    (omega arith, refl, ap (line_of a.s.now) z, omega arith)
+
+pub loop-done-preserved : goal.loop-done-preserved
+unfolding line_start
+loop-done-preserved c =
+    let l = c in
+    let s = l.args.s.now in
+    let k = l.args.k in
+    let n : suc (k - (l.loop-done.done + 1)) ≡ k - l.loop-done.done = omega arith in
+    let e = c.past-from.ensures.0 in (
+      omega arith,
+      rw add-one (e ∙ ap (past 10 s) l.loop-done.invariant.1),
+      rw e (line_next s l.loop-done.from (k - (l.loop-done.done + 1)) ∙ ap (line_of (drop l.loop-done.from s)) n ∙ l.loop-done.invariant.2),
+      omega arith,
+    )
+
+pub returns : goal.returns
+unfolding line_of
+returns c =
+    let l = c in
+    let k = l.args.k in
+    let d : l.loop-done.done ≡ k = omega arith in
+    let z : 0 ≡ k - l.loop-done.done = omega arith in
+    let s = l.args.s.now in
+    (l.loop-done.invariant.1 ∙ ap (line_start s) d, (ap (line_of (drop l.loop-done.from s)) z ∙ l.loop-done.invariant.2, l.loop-done.invariant.3))

@@ -1,0 +1,30 @@
+-- Each of the bytes passed is a blank.
+use Prim.Native.Nat.{◌+◌, ◌-◌, ◌≤◌}
+use mathlib.Core.Path.{◌≡◌, refl, ap}
+use native.Mathlib.Omega.{arith}
+use borrow.Author.Tests.{eq-eqb, ne_eqb}
+use lib.ListN.{length, drop}
+use Rattle.lines.specs.Words.{leading, is_blank}
+use Rattle.lines.proofs.Words.{leading_more, leading_stop, leading_none}
+use Rattle.lines.proofs.past_blanks.Goals as goal
+
+pub loop-i-init : goal.loop-i-init
+loop-i-init c. = h)
+
+pub returns-then-s-i-ne32 : goal.returns-then-s-i-ne32
+returns-then-s-i-ne32 c =
+    let l = c in
+    let e = leading_stop is_blank l.args.s.now l.loop-i.i (omega arith) (ne_eqb _ _ c.if-s-i-ne32.true) in
+    (omega (arith, l.loop-i.invariant.1, ap length e), (l.loop-i.invariant.2, l.loop-i.invariant.0))
+
+pub loop-i-preserved : goal.loop-i-preserved
+loop-i-preserved c =
+    let l = c in
+    let e = leading_more is_blank l.args.s.now l.loop-i.i (omega arith) (eq-eqb _ _ c.if-s-i-ne32.false) in
+    (omega arith, omega (arith, l.loop-i.invariant.1, ap length e), λ h. omega arith)
+
+pub returns : goal.returns
+returns c =
+    let l = c in
+    let e = leading_none is_blank l.args.s.now l.loop-i.i (omega arith) in
+    (omega (arith, l.loop-i.invariant.1, ap length e), (l.loop-i.invariant.2, l.loop-i.invariant.0))

@@ -1,0 +1,18 @@
+use native.Mathlib.Omega.{arith}
+use borrow.Author.Rules.{rules}
+use Prim.Native.Nat.{◌+◌, ◌*◌, ◌-◌, ◌≤◌}
+use mathlib.Core.Path.{◌≡◌, refl, sym, ap, ◌∙◌}
+use lib.ListN.{length, take}
+use lib.Seq.{take_all}
+use Rattle.laws.specs.Placed.{place}
+use Rattle.digits.proofs.Bytes.{placed}
+use Rattle.lines.specs.Pairs.{hex_text}
+use Rattle.laws.proofs.Placed.{place_none}
+use Rattle.lines.proofs.Pairs.{pair_size, hex_more}
+use Rattle.lines.proofs.put_hex.Given as goal
+
+abbrev pub invariant-loop-i : goal.invariant-loop-i
+invariant-loop-i l = (l.i ≤ length l.bytes) × (length l.out ≡ length l.initial.out) × (l.out ≡ place l.initial.out l.at (hex_text (take l.i l.bytes)))
+
+abbrev pub decreases-loop-i : goal.decreases-loop-i
+decreases-loop-i l = length l.bytes - l.i

@@ -1,0 +1,23 @@
+use Prim.Native.Nat.{◌/◌, ◌%◌, ◌≤◌}
+use mathlib.Core.Path.{◌≡◌}
+use native.Mathlib.Omega.{arith}
+use borrow.Author.Rules.{rules}
+use Rattle.months.proofs.Rows.{none_below, in_row_arm}
+use Rattle.months.proofs.table.in_group.Goals as goal
+
+pub returns-in-0 : goal.returns-in-0
+returns-in-0 c = let a = c.args in in_row_arm a.t1 a.k 0 c.in_default.keys1 c.in_row.ensures
+
+pub returns-in-1 : goal.returns-in-1
+returns-in-1 c = let a = c.args in in_row_arm a.t1 a.k 1 c.in_default.keys2 c.in_row-in-1.ensures
+
+pub returns-in-2 : goal.returns-in-2
+returns-in-2 c = let a = c.args in in_row_arm a.t1 a.k 2 c.in_default.keys3 c.in_row-in-2.ensures
+
+-- the default is the last place
+pub returns-in_default : goal.returns-in_default
+returns-in_default c =
+    let a = c.args in
+    let low : 3 ≤ a.k / 48 % 4 = none_below 3 (a.k / 48 % 4) c.in_default.rest in
+    let e : a.k / 48 % 4 ≡ 3 = omega arith in
+    in_row_arm a.t1 a.k 3 e c.in_row-in_default.ensures

@@ -1,0 +1,18 @@
+use mathlib.Core.Path.{◌≡◌, refl, sym, ap, ◌∙◌}
+use mathlib.Core.List.{[], ◌∷◌, ◌++◌}
+use Prim.Native.Nat.{ℕ, ◌+◌, ◌-◌, ◌≤◌}
+use native.Mathlib.Omega.{arith}
+use borrow.Author.Rules.{rules}
+use lib.ListN.{length, take}
+use lib.Seq.{take_all}
+use Rattle.phrases.specs.Puts.{Puts}
+use Rattle.phrases.specs.Parts.{quoted}
+use Rattle.phrases.proofs.Puts.{puts_none, puts_as, size_into, then}
+use Rattle.phrases.proofs.Parts.{quoted_more}
+use Rattle.phrases.proofs.put_quoted.Given as goal
+
+abbrev pub invariant-loop-i : goal.invariant-loop-i
+invariant-loop-i l = (l.i ≤ length l.given) × Puts l.initial.out l.initial.next (quoted (take l.i l.given)) l.next l.out
+
+abbrev pub decreases-loop-i : goal.decreases-loop-i
+decreases-loop-i l = length l.given - l.i

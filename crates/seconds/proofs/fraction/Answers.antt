@@ -1,0 +1,14 @@
+-- The digits stand over six zeros.
+use mathlib.Core.Path.{◌∙◌}
+use native.Mathlib.Omega.{arith}
+use Rattle.seconds.proofs.Seconds.{fraction_long, fraction_short}
+use borrow.Author.Rules.{rules}
+use Rattle.seconds.proofs.fraction.Goals as goal
+
+pub returns-then-given-gt6 : goal.returns-then-given-gt6
+returns-then-given-gt6 c = fraction_long _ (omega arith)
+
+pub returns : goal.returns
+returns c =
+    let a = c in
+    c.decimal.ensures ∙ fraction_short _ (omega arith) a.append.ensures

@@ -1,0 +1,17 @@
+-- The sign, and the size behind it.
+use mathlib.Core.Path.{ap, ◌∙◌}
+use lib.IntN.{nat_abs}
+use mir.Facts.{to_z-of_z}
+use Rattle.seconds.specs.Seconds.{sign_text, micros_text, seconds_text}
+use Rattle.phrases.proofs.Puts.{puts_as, then}
+use borrow.Author.Rules.{rules}
+use Rattle.seconds.proofs.put_seconds.Goals as goal
+
+pub returns : goal.returns
+unfolding seconds_text
+returns c =
+    let p = c in
+    let g = p in
+    let m = g in
+    let z = to_z-of_z m.ranges.z in
+    then (puts_as (ap sign_text z) g.put_sign-a.ensures) (puts_as (ap micros_text (m.magnitude-n.ensures ∙ ap nat_abs z)) p.put_micros.ensures)

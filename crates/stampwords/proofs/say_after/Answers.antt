@@ -1,0 +1,14 @@
+-- One second on, on its own clock.
+use borrow.Author.Rules.{rules}
+use mathlib.Core.Path.{ap}
+use Prim.Native.Nat.{ℕ}
+use Rattle.seconds.specs.declared.Move.TheVariants.{On}
+use Rattle.phrases.proofs.Replies.{says_as}
+use Rattle.stampwords.specs.Moves.{moved_reply}
+use Rattle.stampwords.proofs.say_after.Goals as goal
+
+pub returns : goal.returns
+returns c =
+    let k = c in
+    let a = k.args in
+    says_as (ap (λ (n : ℕ). moved_reply a.t a.line.now a.given.now (On 1000000) n 0) k.clock_of.ensures) c.say_moved.ensures

@@ -1,0 +1,17 @@
+use borrow.Author.Rules.{sfits_of}
+use mathlib.Core.Path.{◌≡◌, refl, sym, ap, ◌∙◌}
+use Prim.Native.Nat.{◌-◌, ◌≤◌}
+use native.Mathlib.Omega.{arith}
+use lib.ListN.{length}
+use mir.Facts.{to_z-of_z}
+use Rattle.phrases.specs.Puts.{Puts}
+use Rattle.phrases.proofs.Puts.{puts_none, puts_as, size_into, then}
+use Rattle.tablewords.specs.Words.{first_entries}
+use Rattle.tablewords.proofs.Words.{entries_more}
+use Rattle.tablewords.proofs.put_entries.Given as goal
+
+abbrev pub invariant-loop-k : goal.invariant-loop-k
+invariant-loop-k l = (l.k ≤ l.n) × Puts l.initial.out l.initial.next (first_entries l.t l.k) l.next l.out
+
+abbrev pub decreases-loop-k : goal.decreases-loop-k
+decreases-loop-k l = l.n - l.k

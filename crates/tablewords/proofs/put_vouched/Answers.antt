@@ -1,0 +1,21 @@
+-- None is given, or four texts one behind another.
+use borrow.Author.Rules.{rules}
+use mathlib.Core.Path.{refl}
+use native.Mathlib.Omega.{arith}
+use Rattle.laws.proofs.Branches.{if_less, if_not_less}
+use Rattle.phrases.proofs.Puts.{puts_as, then}
+use Rattle.tablewords.specs.Words.{vouched_words}
+use Rattle.tablewords.proofs.put_vouched.Goals as goal
+
+pub returns-then-v-lt1 : goal.returns-then-v-lt1
+unfolding vouched_words
+returns-then-v-lt1 c = puts_as (if_not_less {m = 0} {n = c.args.v} _ (omega arith) refl) c.put.ensures
+
+pub returns : goal.returns
+unfolding vouched_words
+returns c =
+    let year = c in
+    let blank = year in
+    let month = blank in
+    let to = month in
+    puts_as (if_less {m = 0} {n = to.args.v} _ (omega arith) refl) (then to.put-a.ensures (then month.put_month-b.ensures (then blank.put-c.ensures year.put_unsigned.ensures)))

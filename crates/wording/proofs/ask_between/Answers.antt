@@ -1,0 +1,18 @@
+-- The two parts around the word.
+use borrow.Author.Rules.{rules}
+use mathlib.Core.Path.{sym, ap₂}
+use lib.Seq.{length-take-le}
+use Rattle.digits.specs.Bytes.{ascii}
+use Rattle.phrases.proofs.Replies.{says_as}
+use Rattle.stampwords.specs.Spans.{between_reply}
+use Rattle.phrases.proofs.Parts.{first_part, second_part}
+use Rattle.wording.proofs.ask_between.Goals as goal
+
+pub slice_bounds-say_between-end : goal.slice_bounds-say_between-end
+slice_bounds-say_between-end c = let u = c.up_to-k in sym (length-take-le u.result c.args.rest.now u.ensures.1)
+
+pub returns : goal.returns
+returns c =
+    let a = c.args in
+    let s = a.rest.now in
+    says_as (ap₂ (between_reply a.t) (first_part (ascii " and ") s c.up_to-k.ensures.0) (second_part (ascii " and ") s c.behind-from.result c.behind-from.ensures.0)) c.say_between.ensures
