@@ -20,7 +20,7 @@ use mir.Val.{SFits, hbits, to_z, of_z}
 use mir.Facts.{to_z-of_z}
 use Rattle.laws.proofs.Cases.{pick, and_l, and_r, join}
 use Rattle.digits.specs.Bytes.{bytes_at}
-use Rattle.digits.specs.Decimals.{is_digit, digit_value, all_digits, spelled, number_at, digits_of, width_of, decimal_text, signed_text, decimal_of, Within}
+use Rattle.digits.specs.Decimals.{is_digit, digit_value, digit_at, all_digits, spelled, number_at, digits_of, width_of, decimal_text, signed_text, decimal_of, Within}
 use Rattle.digits.specs.declared.Number.{Number}
 use Rattle.digits.specs.declared.Number.TheVariants.{Is, Bad}
 use Rattle.digits.proofs.Bytes.{bytes_length}
@@ -92,10 +92,10 @@ shift x l i (suc w) = rw (suc-add) (ap (λ (r : List ℕ). get_or l i 0 ∷ r) (
 -- the first k of w digits, and zeros for the others
 pub padded : (w k n a : ℕ) → k ≤ w → spelled a (bytes_at (take k (digits_of w n)) 0 w) + n % 10 ^ (w - k) ≡ a * 10 ^ w + n % 10 ^ w
 unfolding spelled
-padded w zero n a h = rw (zeros w 0 a, sub-zero)
+padded w zero n a h = ap₂ (λ (v m : ℕ). v + n % 10 ^ m) (zeros w 0 a) (sub-zero w)
 padded zero (suc k) n a h = absurd (not-suc-le-zero h)
 padded (suc w) (suc k) n a h =
-    rw (suc-sub-suc, shift _ (take k (digits_of w n)) 0 w)
+    rw (suc-sub-suc, shift (digit_at n (10 ^ w)) (take k (digits_of w n)) 0 w)
     (ap (λ (d : ℕ). spelled (a * 10 + d) (bytes_at (take k (digits_of w n)) 0 w) + n % 10 ^ (w - k)) (value_back (n / 10 ^ w))
     ∙ padded w k n _ (le_of_suc-le-suc h) ∙ lead w n a)
 
