@@ -5,7 +5,6 @@ use mathlib.Core.Bool.{Bool, true, false, cond, ◌&&◌, ◌||◌}
 use mathlib.Core.List.{List}
 use lib.Dec.{eqb}
 use lib.ListN.{get_or}
-use borrow.Author.Rules.{rules}
 use Rattle.digits.specs.Months.{month_name, letter}
 use Rattle.kinds.specs.Parts.{goes_on}
 use Rattle.kinds.proofs.goes_on.Goals as goal

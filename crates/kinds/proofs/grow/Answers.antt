@@ -1,5 +1,4 @@
 -- `kinds::grow` meets its contract.
-use borrow.Author.Rules.{rules}
 use mathlib.Core.Path.{refl}
 use native.Mathlib.Omega.{arith}
 use Rattle.laws.proofs.Branches.{if_less, if_not_less}

@@ -1,5 +1,4 @@
 -- `kinds::matched_in` meets its contract.
-use borrow.Author.Rules.{rules}
 use borrow.Author.Tests.{eq-eqb, ne_eqb, lt-ltb, le-ltb}
 use Rattle.kinds.specs.Parts.{matched}
 use Rattle.kinds.proofs.matched_in.Goals as goal

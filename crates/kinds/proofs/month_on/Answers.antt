@@ -1,22 +1,20 @@
 -- None of the months passed goes on so.
-use Prim.Native.Nat.{ℕ, suc, ◌-◌, ◌≤◌, ◌<◌}
-use mathlib.Core.Path.{◌≡◌, refl, sym, ◌∙◌}
+use Prim.Native.Nat.{ℕ, zero, suc, ◌-◌, ◌<◌}
+use mathlib.Core.Path.{◌≡◌, sym, ◌∙◌}
 use mathlib.Core.Bool.{true, false}
 use native.Mathlib.Omega.{arith}
-use borrow.Author.Rules.{rules}
 use Rattle.kinds.specs.Parts.{goes_on, month_on}
 use Rattle.kinds.proofs.month_on.Goals as goal
 
 this : (from k c m : ℕ) → 0 < m → goes_on from k c m ≡ true → month_on from k c m ≡ m
 unfolding month_on
+this from k c zero l e = elim l [ ]
 this from k c (suc m) l e = rw e
 
 before : (from k c m : ℕ) → 0 < m → goes_on from k c m ≡ false → month_on from k c m ≡ month_on from k c (m - 1)
 unfolding month_on
+before from k c zero l e = elim l [ ]
 before from k c (suc m) l e = let h : suc m - 1 ≡ m = omega arith in rw (e, h)
-
-pub loop-m-init : goal.loop-m-init
-loop-m-init c = (search rules, refl)
 
 pub returns-then-goes_on : goal.returns-then-goes_on
 returns-then-goes_on c =

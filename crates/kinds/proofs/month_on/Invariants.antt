@@ -1,9 +1,6 @@
-use Prim.Native.Nat.{ℕ, suc, ◌-◌, ◌≤◌, ◌<◌}
-use mathlib.Core.Path.{◌≡◌, refl, sym, ◌∙◌}
-use mathlib.Core.Bool.{true, false}
-use native.Mathlib.Omega.{arith}
-use borrow.Author.Rules.{rules}
-use Rattle.kinds.specs.Parts.{goes_on, month_on}
+use Prim.Native.Nat.{◌≤◌}
+use mathlib.Core.Path.{◌≡◌}
+use Rattle.kinds.specs.Parts.{month_on}
 use Rattle.kinds.proofs.month_on.Given as goal
 
 abbrev pub invariant-loop-m : goal.invariant-loop-m
