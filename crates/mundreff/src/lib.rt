@@ -240,39 +240,27 @@ fn give_move<'a>(a: MoveAnswer, place: &'a mut usize, length: &'a mut usize) -> 
 
 // ---- the calls
 
-#[unsafe(no_mangle)]
-pub extern "C" fn mundreff_bulletin_c(table: &mut [u32; 130]) -> u32
+pub fn mundreff_bulletin_c(table: &mut [u32; 130]) -> u32
     ensures { (result ≡ 0) × (table.new ≡ table_words bulletin_c) }
 {
     store_table(leap::bulletin_c(), table);
     0
 }
 
-#[unsafe(no_mangle)]
-pub extern "C" fn mundreff_read_block<'a>(
-    block: &[u8],
-    place: &'a mut usize,
-    table: &'a mut [u32; 130],
-) -> u32
+pub fn mundreff_read_block<'a>(block: &[u8], place: &'a mut usize, table: &'a mut [u32; 130]) -> u32
     ensures { (result, place.new, table.new) ≡ table_numbers (read_block block.now) }
 {
     give_table(block::read_block(block), place, table)
 }
 
-#[unsafe(no_mangle)]
-pub extern "C" fn mundreff_write_block(
-    table: &[u32; 130],
-    out: &mut [u8],
-    length: &mut usize,
-) -> u32
+pub fn mundreff_write_block(table: &[u32; 130], out: &mut [u8], length: &mut usize) -> u32
     ensures length_after { (result, length.new) ≡ written_results (write_block (table_from table.now) out.old) }
     ensures out_after { out.new ≡ write_block_after (table_from table.now) out.old }
 {
     give_length(block::write_block(table_of(table), out), length)
 }
 
-#[unsafe(no_mangle)]
-pub extern "C" fn mundreff_read_new_block<'a>(
+pub fn mundreff_read_new_block<'a>(
     block: &[u8],
     place: &'a mut usize,
     table: &'a mut [u32; 130],
@@ -282,20 +270,14 @@ pub extern "C" fn mundreff_read_new_block<'a>(
     give_table(block::read_new_block(block), place, table)
 }
 
-#[unsafe(no_mangle)]
-pub extern "C" fn mundreff_write_new_block(
-    table: &[u32; 130],
-    out: &mut [u8],
-    length: &mut usize,
-) -> u32
+pub fn mundreff_write_new_block(table: &[u32; 130], out: &mut [u8], length: &mut usize) -> u32
     ensures length_after { (result, length.new) ≡ written_results (write_new_block (table_from table.now) out.old) }
     ensures out_after { out.new ≡ write_new_block_after (table_from table.now) out.old }
 {
     give_length(block::write_new_block(table_of(table), out), length)
 }
 
-#[unsafe(no_mangle)]
-pub extern "C" fn mundreff_renew<'a>(
+pub fn mundreff_renew<'a>(
     block: &[u8],
     vouched: u32,
     out: &mut [u8],
@@ -308,8 +290,7 @@ pub extern "C" fn mundreff_renew<'a>(
     give_move(block::renew(block, vouched, out), place, length)
 }
 
-#[unsafe(no_mangle)]
-pub extern "C" fn mundreff_revert<'a>(
+pub fn mundreff_revert<'a>(
     block: &[u8],
     out: &mut [u8],
     place: &'a mut usize,
@@ -321,54 +302,33 @@ pub extern "C" fn mundreff_revert<'a>(
     give_move(block::revert(block, out), place, length)
 }
 
-#[unsafe(no_mangle)]
-pub extern "C" fn mundreff_read_kernel<'a>(
-    file: &[u8],
-    place: &'a mut usize,
-    table: &'a mut [u32; 130],
-) -> u32
+pub fn mundreff_read_kernel<'a>(file: &[u8], place: &'a mut usize, table: &'a mut [u32; 130]) -> u32
     ensures { (result, place.new, table.new) ≡ table_numbers (read_kernel file.now) }
 {
     give_table(kernel::read_kernel(file), place, table)
 }
 
-#[unsafe(no_mangle)]
-pub extern "C" fn mundreff_write_kernel(
-    table: &[u32; 130],
-    out: &mut [u8],
-    length: &mut usize,
-) -> u32
+pub fn mundreff_write_kernel(table: &[u32; 130], out: &mut [u8], length: &mut usize) -> u32
     ensures length_after { (result, length.new) ≡ written_results (write_kernel (table_from table.now) out.old) }
     ensures out_after { out.new ≡ write_kernel_after (table_from table.now) out.old }
 {
     give_length(kernel::write_kernel(table_of(table), out), length)
 }
 
-#[unsafe(no_mangle)]
-pub extern "C" fn mundreff_read_cards<'a>(
-    file: &[u8],
-    place: &'a mut usize,
-    table: &'a mut [u32; 130],
-) -> u32
+pub fn mundreff_read_cards<'a>(file: &[u8], place: &'a mut usize, table: &'a mut [u32; 130]) -> u32
     ensures { (result, place.new, table.new) ≡ table_numbers (read_cards file.now) }
 {
     give_table(cards::read_cards(file), place, table)
 }
 
-#[unsafe(no_mangle)]
-pub extern "C" fn mundreff_write_cards(
-    table: &[u32; 130],
-    out: &mut [u8],
-    length: &mut usize,
-) -> u32
+pub fn mundreff_write_cards(table: &[u32; 130], out: &mut [u8], length: &mut usize) -> u32
     ensures length_after { (result, length.new) ≡ written_results (write_cards (table_from table.now) out.old) }
     ensures out_after { out.new ≡ write_cards_after (table_from table.now) out.old }
 {
     give_length(cards::write_cards(table_of(table), out), length)
 }
 
-#[unsafe(no_mangle)]
-pub extern "C" fn mundreff_instant_of<'a>(
+pub fn mundreff_instant_of<'a>(
     table: &[u32; 130],
     stamp: &[u32; 8],
     instant: &'a mut i64,
@@ -380,8 +340,7 @@ pub extern "C" fn mundreff_instant_of<'a>(
     give_instant(a, instant, marks)
 }
 
-#[unsafe(no_mangle)]
-pub extern "C" fn mundreff_stamp_of<'a>(
+pub fn mundreff_stamp_of<'a>(
     table: &[u32; 130],
     instant: i64,
     scale: u32,
@@ -394,8 +353,7 @@ pub extern "C" fn mundreff_stamp_of<'a>(
     give_stamp(a, stamp, marks)
 }
 
-#[unsafe(no_mangle)]
-pub extern "C" fn mundreff_read_text<'a>(
+pub fn mundreff_read_text<'a>(
     table: &[u32; 130],
     scale: u32,
     text: &[u8],
@@ -409,8 +367,7 @@ pub extern "C" fn mundreff_read_text<'a>(
     give_text(a, instant, stamp, marks)
 }
 
-#[unsafe(no_mangle)]
-pub extern "C" fn mundreff_write_text<'a>(
+pub fn mundreff_write_text<'a>(
     table: &[u32; 130],
     instant: i64,
     picture: u32,
@@ -430,8 +387,7 @@ pub extern "C" fn mundreff_write_text<'a>(
     give_length(answer, length)
 }
 
-#[unsafe(no_mangle)]
-pub extern "C" fn mundreff_write_julian<'a>(
+pub fn mundreff_write_julian<'a>(
     table: &[u32; 130],
     instant: i64,
     scale: u32,
@@ -445,8 +401,7 @@ pub extern "C" fn mundreff_write_julian<'a>(
     give_pair(a, midnight, fraction, marks)
 }
 
-#[unsafe(no_mangle)]
-pub extern "C" fn mundreff_read_julian<'a>(
+pub fn mundreff_read_julian<'a>(
     table: &[u32; 130],
     scale: u32,
     midnight: f64,
@@ -461,20 +416,14 @@ pub extern "C" fn mundreff_read_julian<'a>(
     give_instant(a, instant, marks)
 }
 
-#[unsafe(no_mangle)]
-pub extern "C" fn mundreff_start<'a>(
-    table: &[u32; 130],
-    label: &'a mut [u32; 6],
-    marks: &'a mut u32,
-) -> u32
+pub fn mundreff_start<'a>(table: &[u32; 130], label: &'a mut [u32; 6], marks: &'a mut u32) -> u32
     ensures { (result, label.new, marks.new) ≡ label_with_marks (start_marked (table_from table.now)) }
 {
     give_label(clock::start(table_of(table)), label, marks)
 }
 
 // The label becomes the next one: with one place for both, a tick in place is what is proved, and no two labels can overlap.
-#[unsafe(no_mangle)]
-pub extern "C" fn mundreff_tick_in_place<'a>(
+pub fn mundreff_tick_in_place<'a>(
     table: &[u32; 130],
     label: &'a mut [u32; 6],
     marks: &'a mut u32,

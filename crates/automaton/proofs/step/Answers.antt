@@ -7,23 +7,23 @@ use Rattle.automaton.proofs.step.Goals as goal
 
 pub returns-in-Rest : goal.returns-in-Rest
 unfolding step
-returns-in-Rest c. = step a.have a.at x a.b) c.mode-1.given.1 c.in-default.ensures
+returns-in-Rest c = let a = c.args in from (λ x. step a.have a.at x a.b) c.mode-1.given.1 c.in-default.ensures
 
 pub returns-in-Inside : goal.returns-in-Inside
 unfolding step
-returns-in-Inside c. = step a.have a.at x a.b) c.mode-in-Inside-1.given.1 c.in_inside.ensures
+returns-in-Inside c = let a = c.args in from (λ x. step a.have a.at x a.b) c.mode-in-Inside-1.given.1 c.in_inside.ensures
 
 pub returns-in-Name : goal.returns-in-Name
 unfolding step
-returns-in-Name c. = step a.have a.at x a.b) c.mode-in-Name-1.given.1 c.in_name.ensures
+returns-in-Name c = let a = c.args in from (λ x. step a.have a.at x a.b) c.mode-in-Name-1.given.1 c.in_name.ensures
 
 pub returns-in-Ours : goal.returns-in-Ours
 unfolding step
-returns-in-Ours c. = step a.have a.at x a.b) c.mode-in-Ours-1.given.1 c.in_ours.ensures
+returns-in-Ours c = let a = c.args in from (λ x. step a.have a.at x a.b) c.mode-in-Ours-1.given.1 c.in_ours.ensures
 
 pub returns-in-Pair : goal.returns-in-Pair
 unfolding step
-returns-in-Pair c. = step a.have a.at x a.b) c.mode-in-Pair-1.given.1 c.in_pair.ensures
+returns-in-Pair c = let a = c.args in from (λ x. step a.have a.at x a.b) c.mode-in-Pair-1.given.1 c.in_pair.ensures
 
 pub returns-in-Date : goal.returns-in-Date
 unfolding step
@@ -31,8 +31,8 @@ returns-in-Date c = let a = c.args in from (λ x. step a.have a.at x a.b) c.mode
 
 pub returns-in-Done : goal.returns-in-Done
 unfolding step
-returns-in-Done c. = step a.have a.at x a.b) c.mode-in-Done-1.given.1 c.in_done.ensures
+returns-in-Done c = let a = c.args in from (λ x. step a.have a.at x a.b) c.mode-in-Done-1.given.1 c.in_done.ensures
 
 pub returns-in-Dead : goal.returns-in-Dead
 unfolding step
-returns-in-Dead c. = step a.have a.at x a.b) c.mode-in-Dead-1.given.1 refl
+returns-in-Dead c = let a = c.args in from (λ x. step a.have a.at x a.b) c.mode-in-Dead-1.given.1 refl

@@ -21,13 +21,13 @@ module _ (step : ℤ → ℤ) {z : ℤ} (n : ℕ) (f : SFits w32 z) (h : mag z <
   made = rw (to_z-of_z fits, to_z-of_z f) e
 
 pub overflow_add-result : goal.overflow_add-result
-overflow_add-result c. = z +ℤ pos 1) c.args.n c.ranges.before c.requires (rw (eq-eqb (c.args.n % 2) 0 c.if-n-eq0.true))
+overflow_add-result c = fits (λ z. z +ℤ pos 1) c.args.n c.ranges.before c.requires (rw (eq-eqb (c.args.n % 2) 0 c.if-n-eq0.true))
 
 pub overflow_sub-result : goal.overflow_sub-result
-overflow_sub-result c. = z -ℤ pos 1) c.args.n c.ranges.before c.requires (rw (ne_eqb (c.args.n % 2) 0 c.if-n-eq0.false))
+overflow_sub-result c = fits (λ z. z -ℤ pos 1) c.args.n c.ranges.before c.requires (rw (ne_eqb (c.args.n % 2) 0 c.if-n-eq0.false))
 
 pub returns-then-n-eq0 : goal.returns-then-n-eq0
-returns-then-n-eq0 c. = z +ℤ pos 1) c.args.n c.ranges.before c.requires (rw (eq-eqb (c.args.n % 2) 0 c.if-n-eq0.true))
+returns-then-n-eq0 c = made (λ z. z +ℤ pos 1) c.args.n c.ranges.before c.requires (rw (eq-eqb (c.args.n % 2) 0 c.if-n-eq0.true))
 
 pub returns-else-n-eq0 : goal.returns-else-n-eq0
-returns-else-n-eq0 c. = z -ℤ pos 1) c.args.n c.ranges.before c.requires (rw (ne_eqb (c.args.n % 2) 0 c.if-n-eq0.false))
+returns-else-n-eq0 c = made (λ z. z -ℤ pos 1) c.args.n c.ranges.before c.requires (rw (ne_eqb (c.args.n % 2) 0 c.if-n-eq0.false))

@@ -11,7 +11,7 @@ pub returns-then-count-gt64 : goal.returns-then-count-gt64
 returns-then-count-gt64 c = let a = c.args in c.refused_at.ensures ∙ turned_many a.falling (tabled a.count a.months.now a.offsets.now) c.if-count-gt64.true
 
 pub returns-then-falling : goal.returns-then-falling
-returns-then-falling c. = judged (turned b (tabled a.count a.months.now a.offsets.now))) (sym c.if-falling.true)
+returns-then-falling c = let a = c.args in c.judge_falling.ensures ∙ ap (λ b. judged (turned b (tabled a.count a.months.now a.offsets.now))) (sym c.if-falling.true)
 
 pub returns : goal.returns
-returns c. = judged (turned b (tabled a.count a.months.now a.offsets.now))) (sym c.if-falling.false)
+returns c = let a = c.args in c.judge.ensures ∙ ap (λ b. judged (turned b (tabled a.count a.months.now a.offsets.now))) (sym c.if-falling.false)

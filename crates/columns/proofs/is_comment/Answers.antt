@@ -6,4 +6,4 @@ use lib.Dec.{eqb}
 use Rattle.columns.proofs.is_comment.Goals as goal
 
 pub returns : goal.returns
-returns c. = eqb b 42 || (eqb b 67 || eqb b 99)) c.byte_at-first.ensures
+returns c = ap (λ b. eqb b 42 || (eqb b 67 || eqb b 99)) c.byte_at-first.ensures

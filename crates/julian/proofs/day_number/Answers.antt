@@ -18,4 +18,4 @@ overflow_cast-result c = let y = years c.args.x c.requires in record { fits = om
 
 pub returns : goal.returns
 unfolding day_number
-returns c. = n - 1721059) (c.truncating_f64_to_u64.ensures ∙ y.whole)
+returns c = let y = years c.args.x c.requires in ap (λ (n : ℕ). n - 1721059) (c.truncating_f64_to_u64.ensures ∙ y.whole)

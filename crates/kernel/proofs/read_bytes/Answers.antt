@@ -24,7 +24,7 @@ module _ (c : goal.After-step-mode) where
   stepped = c.step-mode.ensures
 
 pub loop-i-init : goal.loop-i-init
-loop-i-init c. = absurd (omega arith) }
+loop-i-init c = record { pairs = []; goes = refl; inside = omega arith; few = λ l. (refl, record { months_are = refl; offsets_are = refl }); many = λ l. absurd (omega arith) }
 
 pub loop-i-smaller-in-Rest : goal.loop-i-smaller-in-Rest
 loop-i-smaller-in-Rest c = omega (arith, c.pass_over-i.ensures.later, c.pass_over-i.ensures.inside)

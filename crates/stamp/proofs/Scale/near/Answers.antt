@@ -4,4 +4,4 @@ use Rattle.leap.specs.declared.OffsetPair.{OffsetPair}
 use Rattle.stamp.proofs.Scale.near.Goals as goal
 
 pub returns-in-Utc : goal.returns-in-Utc
-returns-in-Utc c. = p.next) c.near.ensures)
+returns-in-Utc c = rw c.enum_told-1.given.1 (ap (λ (p : OffsetPair). p.here) c.near.ensures, ap (λ (p : OffsetPair). p.next) c.near.ensures)
