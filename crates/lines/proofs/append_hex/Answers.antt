@@ -5,7 +5,6 @@ use lib.ListN.{length}
 use Rattle.digits.proofs.Bytes.{same_text, room_yes, room_no}
 use Rattle.lines.specs.Pairs.{hex_text}
 use Rattle.lines.proofs.Pairs.{hex_length, hex_some, hex_none}
-use borrow.Author.Rules.{rules}
 use Rattle.lines.proofs.append_hex.Goals as goal
 
 pub returns-then-bytes-eq0 : goal.returns-then-bytes-eq0

@@ -1,9 +1,6 @@
 -- The pairs passed and those still to come are all the pairs.
 use native.Mathlib.Omega.{arith}
-use borrow.Author.Rules.{rules}
-use Prim.Native.Nat.{◌-◌, ◌/◌}
-use lib.ListN.{length}
-use Rattle.lines.proofs.Pairs.{Counted, count_none, count_more, count_done, pair_good, pair_bad_a, pair_bad_b, pair_end}
+use Rattle.lines.proofs.Pairs.{count_none, count_more, count_done, pair_good, pair_bad_a, pair_bad_b, pair_end}
 use Rattle.lines.proofs.count_pairs.Goals as goal
 
 pub loop-i-init : goal.loop-i-init

@@ -1,7 +1,6 @@
 -- A digit below ten or a letter.
 use native.Mathlib.Omega.{arith}
 use borrow.Author.Tests.{lt-ltb, le-ltb}
-use borrow.Author.Rules.{rules}
 use Rattle.lines.proofs.glyph.Goals as goal
 
 pub returns-then-d-lt10 : goal.returns-then-d-lt10

@@ -1,6 +1,5 @@
 -- The two digits as the definition has them.
 use Rattle.lines.specs.Pairs.{hex_text}
-use borrow.Author.Rules.{rules}
 use Rattle.lines.proofs.glyphs.Goals as goal
 
 pub returns : goal.returns

@@ -1,6 +1,5 @@
 -- Room first, then nothing but pairs, and only then are they stored.
 use native.Mathlib.Omega.{arith}
-use borrow.Author.Rules.{rules}
 use Rattle.lines.proofs.Pairs.{no_room, not_pairs, all_pairs_lem, paired_few}
 use Rattle.lines.proofs.hex.Goals as goal
 

@@ -1,6 +1,5 @@
 -- No room, or a front of the piece that has room.
 use native.Mathlib.Omega.{arith}
-use borrow.Author.Rules.{rules}
 use Rattle.lines.proofs.Cuts.{held_full, held_more}
 use Rattle.lines.proofs.hold.Goals as goal
 
@@ -12,4 +11,4 @@ pub returns : goal.returns
 returns c =
     let p = c in
     let a = p.args in
-    held_more a.line.now a.held a.piece.now (omega arith) p.front-n.ensures.1 p.append.ensures
+    held_more a.line.now a.held a.piece.now (omega arith) p.front-n.ensures.value p.append.ensures

@@ -1,10 +1,9 @@
 -- `from` is where line `done` begins, and the lines from there on are those that are left.
 use mathlib.Core.Path.{◌≡◌, refl, ap, ◌∙◌}
-use Prim.Native.Nat.{suc, ◌+◌, ◌-◌, ◌≤◌}
+use Prim.Native.Nat.{suc, ◌+◌, ◌-◌}
 use native.Mathlib.Omega.{arith}
 use native.Mathlib.Numerals.{add-one}
-use borrow.Author.Rules.{rules}
-use lib.ListN.{length, drop}
+use lib.ListN.{drop}
 use Rattle.lines.specs.Words.{past, line_of, line_start}
 use Rattle.lines.proofs.Lines.{line_next}
 use Rattle.lines.proofs.line_start.Goals as goal
@@ -38,4 +37,4 @@ returns c =
     let d : l.loop-done.done ≡ k = omega arith in
     let z : 0 ≡ k - l.loop-done.done = omega arith in
     let s = l.args.s.now in
-    (l.loop-done.invariant.1 ∙ ap (line_start s) d, (ap (line_of (drop l.loop-done.from s)) z ∙ l.loop-done.invariant.2, l.loop-done.invariant.3))
+    record { value = l.loop-done.invariant.1 ∙ ap (line_start s) d; s_value = (ap (line_of (drop l.loop-done.from s)) z ∙ l.loop-done.invariant.2, l.loop-done.invariant.3) }

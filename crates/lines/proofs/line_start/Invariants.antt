@@ -1,11 +1,7 @@
-use mathlib.Core.Path.{◌≡◌, refl, ap, ◌∙◌}
-use Prim.Native.Nat.{suc, ◌+◌, ◌-◌, ◌≤◌}
-use native.Mathlib.Omega.{arith}
-use native.Mathlib.Numerals.{add-one}
-use borrow.Author.Rules.{rules}
+use mathlib.Core.Path.{◌≡◌}
+use Prim.Native.Nat.{◌-◌, ◌≤◌}
 use lib.ListN.{length, drop}
-use Rattle.lines.specs.Words.{past, line_of, line_start}
-use Rattle.lines.proofs.Lines.{line_next}
+use Rattle.lines.specs.Words.{line_of, line_start}
 use Rattle.lines.proofs.line_start.Given as goal
 
 abbrev pub invariant-loop-done : goal.invariant-loop-done

@@ -1,21 +1,20 @@
 -- Each of the bytes passed is a blank.
-use Prim.Native.Nat.{◌+◌, ◌-◌, ◌≤◌}
-use mathlib.Core.Path.{◌≡◌, refl, ap}
+use mathlib.Core.Path.{refl, ap}
 use native.Mathlib.Omega.{arith}
 use borrow.Author.Tests.{eq-eqb, ne_eqb}
-use lib.ListN.{length, drop}
-use Rattle.lines.specs.Words.{leading, is_blank}
+use lib.ListN.{length}
+use Rattle.lines.specs.Words.{is_blank}
 use Rattle.lines.proofs.Words.{leading_more, leading_stop, leading_none}
 use Rattle.lines.proofs.past_blanks.Goals as goal
 
 pub loop-i-init : goal.loop-i-init
-loop-i-init c. = h)
+loop-i-init c = (omega arith, refl, λ h. h)
 
 pub returns-then-s-i-ne32 : goal.returns-then-s-i-ne32
 returns-then-s-i-ne32 c =
     let l = c in
     let e = leading_stop is_blank l.args.s.now l.loop-i.i (omega arith) (ne_eqb _ _ c.if-s-i-ne32.true) in
-    (omega (arith, l.loop-i.invariant.1, ap length e), (l.loop-i.invariant.2, l.loop-i.invariant.0))
+    record { value = omega (arith, l.loop-i.invariant.1, ap length e); upper_bound = (l.loop-i.invariant.2, l.loop-i.invariant.0) }
 
 pub loop-i-preserved : goal.loop-i-preserved
 loop-i-preserved c =
@@ -27,4 +26,4 @@ pub returns : goal.returns
 returns c =
     let l = c in
     let e = leading_none is_blank l.args.s.now l.loop-i.i (omega arith) in
-    (omega (arith, l.loop-i.invariant.1, ap length e), (l.loop-i.invariant.2, l.loop-i.invariant.0))
+    record { value = omega (arith, l.loop-i.invariant.1, ap length e); upper_bound = (l.loop-i.invariant.2, l.loop-i.invariant.0) }

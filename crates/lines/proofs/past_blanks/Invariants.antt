@@ -1,10 +1,7 @@
 use Prim.Native.Nat.{◌+◌, ◌-◌, ◌≤◌}
-use mathlib.Core.Path.{◌≡◌, refl, ap}
-use native.Mathlib.Omega.{arith}
-use borrow.Author.Tests.{eq-eqb, ne_eqb}
+use mathlib.Core.Path.{◌≡◌}
 use lib.ListN.{length, drop}
 use Rattle.lines.specs.Words.{leading, is_blank}
-use Rattle.lines.proofs.Words.{leading_more, leading_stop, leading_none}
 use Rattle.lines.proofs.past_blanks.Given as goal
 
 abbrev pub invariant-loop-i : goal.invariant-loop-i

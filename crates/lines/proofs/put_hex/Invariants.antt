@@ -1,14 +1,8 @@
-use native.Mathlib.Omega.{arith}
-use borrow.Author.Rules.{rules}
-use Prim.Native.Nat.{◌+◌, ◌*◌, ◌-◌, ◌≤◌}
-use mathlib.Core.Path.{◌≡◌, refl, sym, ap, ◌∙◌}
+use Prim.Native.Nat.{◌-◌, ◌≤◌}
+use mathlib.Core.Path.{◌≡◌}
 use lib.ListN.{length, take}
-use lib.Seq.{take_all}
 use Rattle.laws.specs.Placed.{place}
-use Rattle.digits.proofs.Bytes.{placed}
 use Rattle.lines.specs.Pairs.{hex_text}
-use Rattle.laws.proofs.Placed.{place_none}
-use Rattle.lines.proofs.Pairs.{pair_size, hex_more}
 use Rattle.lines.proofs.put_hex.Given as goal
 
 abbrev pub invariant-loop-i : goal.invariant-loop-i

@@ -1,9 +1,6 @@
 -- What is stored and what is still to be read are all the pairs.
 use native.Mathlib.Omega.{arith}
-use borrow.Author.Rules.{rules}
-use Prim.Native.Nat.{◌-◌, ◌/◌}
-use lib.ListN.{length}
-use Rattle.lines.proofs.Pairs.{Read, read_none, read_more, read_done, pair_good, pair_bad_a, pair_bad_b, pair_end}
+use Rattle.lines.proofs.Pairs.{read_none, read_more, read_done, pair_good, pair_bad_a, pair_bad_b, pair_end}
 use Rattle.lines.proofs.unhex.Goals as goal
 
 pub loop-i-init : goal.loop-i-init

@@ -1,8 +1,6 @@
-use native.Mathlib.Omega.{arith}
-use borrow.Author.Rules.{rules}
 use Prim.Native.Nat.{◌-◌, ◌/◌}
 use lib.ListN.{length}
-use Rattle.lines.proofs.Pairs.{Read, read_none, read_more, read_done, pair_good, pair_bad_a, pair_bad_b, pair_end}
+use Rattle.lines.proofs.Pairs.{Read}
 use Rattle.lines.proofs.unhex.Given as goal
 
 abbrev pub invariant-loop-i : goal.invariant-loop-i

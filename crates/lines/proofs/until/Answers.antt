@@ -1,9 +1,7 @@
 -- None of the bytes passed is the one looked for.
-use Prim.Native.Nat.{◌+◌, ◌-◌, ◌≤◌}
-use mathlib.Core.Path.{◌≡◌, refl, ap}
+use mathlib.Core.Path.{refl, ap}
 use native.Mathlib.Omega.{arith}
-use lib.ListN.{length, drop}
-use Rattle.lines.specs.Words.{before}
+use lib.ListN.{length}
 use Rattle.lines.proofs.Words.{before_here, before_more, before_end}
 use Rattle.lines.proofs.until.Goals as goal
 
@@ -17,7 +15,7 @@ pub returns-then-s-i : goal.returns-then-s-i
 returns-then-s-i c =
     let l = c in
     let e = before_here l.args.b l.args.s.now l.loop-i.i (omega arith) c.if-s-i.true in
-    (omega (arith, l.loop-i.invariant.1, ap length e), (l.loop-i.invariant.2, l.loop-i.invariant.0))
+    record { value = omega (arith, l.loop-i.invariant.1, ap length e); upper_bound = (l.loop-i.invariant.2, l.loop-i.invariant.0) }
 
 pub overflow_add-i : goal.overflow_add-i
 overflow_add-i c = omega arith
@@ -35,4 +33,4 @@ pub returns : goal.returns
 returns c =
     let l = c in
     let e = before_end l.args.b l.args.s.now l.loop-i.i (omega arith) in
-    (omega (arith, l.loop-i.invariant.1, ap length e), (l.loop-i.invariant.2, l.loop-i.invariant.0))
+    record { value = omega (arith, l.loop-i.invariant.1, ap length e); upper_bound = (l.loop-i.invariant.2, l.loop-i.invariant.0) }

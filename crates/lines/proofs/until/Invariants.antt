@@ -1,9 +1,7 @@
 use Prim.Native.Nat.{◌+◌, ◌-◌, ◌≤◌}
-use mathlib.Core.Path.{◌≡◌, refl, ap}
-use native.Mathlib.Omega.{arith}
+use mathlib.Core.Path.{◌≡◌}
 use lib.ListN.{length, drop}
 use Rattle.lines.specs.Words.{before}
-use Rattle.lines.proofs.Words.{before_here, before_more, before_end}
 use Rattle.lines.proofs.until.Given as goal
 
 abbrev pub invariant-loop-i : goal.invariant-loop-i
