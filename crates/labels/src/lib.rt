@@ -62,6 +62,7 @@ pub fn month_of(l: Label) -> u64
 
 // ---- which labels exist
 
+#[tactic(auto, unfolding(crate::specs::Labels::real_year))]
 fn real_year(l: Label) -> bool
     ensures { result ≡ real_year l }
 {
@@ -71,6 +72,7 @@ fn real_year(l: Label) -> bool
     l.year <= 9999
 }
 
+#[tactic(auto, unfolding(crate::specs::Labels::real_month))]
 fn real_month(l: Label) -> bool
     ensures { result ≡ real_month l }
 {
@@ -90,6 +92,7 @@ fn day_in(days: u32, l: Label) -> bool
     l.day <= days
 }
 
+#[tactic(auto, unfolding(crate::specs::Labels::real_clock))]
 fn real_clock(most: u32, r: Reading) -> bool
     ensures { result ≡ real_clock most r }
 {
@@ -187,6 +190,7 @@ fn minute_of(rest: u32) -> u32
     minute
 }
 
+#[tactic(auto, unfolding(crate::specs::Back::in_day))]
 fn in_day(m: u32, d: u32, rest: u32) -> Label
     requires { d ≤ 4294967294 }
     ensures { result ≡ in_day m d rest }
@@ -217,6 +221,7 @@ pub fn day_of(days: u32, rest: u32) -> u32
 }
 
 // The month's last minute takes what its days leave over.
+#[tactic(auto, unfolding(crate::specs::Back::label_of))]
 pub fn label_of(p: Place) -> Label
     ensures { result ≡ label_of p }
 {

@@ -1,7 +1,6 @@
 use mathlib.Core.Path.{◌≡◌, refl, ap}
 use Prim.Native.Nat.{ℕ, ◌+◌}
 use native.Mathlib.Omega.{arith}
-use borrow.Author.Rules.{rules}
 use Rattle.laws.proofs.Branches.{cond_yes, cond_rest}
 use Rattle.laws.proofs.Machine.{read2}
 use Rattle.labels.specs.Labels.{last_minute}
@@ -11,11 +10,11 @@ use Rattle.labels.proofs.day_seconds.Goals as goal
 use Rattle.labels.proofs.day_seconds.Goals.{After-last_minute}
 
 minute_is : (c : goal.After-last_minute) → c.last_minute.result ≡ last_minute c.args.here c.args.next
-minute_is c = let s = c.before.before in read2 last_minute s.ranges.here s.ranges.next c.last_minute.ensures
+minute_is c = read2 last_minute c.ranges.here c.ranges.next c.last_minute.ensures
 
 pub overflow_add-result : goal.overflow_add-result
 unfolding seconds_in
-overflow_add-result c = let s = c in record { fits = omega (arith, minute_is (goal.at.overflow_add-result c).After-last_minute, last_range s.args.here s.args.next) }
+overflow_add-result c = record { fits = omega (arith, minute_is (goal.at.overflow_add-result c).After-last_minute, last_range c.args.here c.args.next) }
 
 -- named, so that a fault of the sum shows where `last_minute` has one too
 pub returns-then-last : goal.returns-then-last

@@ -1,10 +1,8 @@
 -- `labels::judge` meets its contract: the tests in their order, and past them the label's month.
-use mathlib.Core.Path.{◌≡◌, ap, ◌∙◌}
+use mathlib.Core.Path.{◌≡◌, ap, sym, ◌∙◌}
 use mathlib.Core.Bool.{true}
 use Prim.Native.Nat.{ℕ}
 use native.Mathlib.Omega.{arith}
-use borrow.Author.Rules.{rules}
-use Rattle.laws.proofs.Branches.{fails, holds}
 use Rattle.answer.proofs.Orders.{refused, passed}
 use Rattle.labels.specs.declared.Judged.TheVariants.{Real}
 use Rattle.labels.specs.Labels.{month_of, real_year, real_month, day_in, real_day, judged}
@@ -14,10 +12,10 @@ use Rattle.labels.proofs.judge.Goals.{After-day_in, Else-not-day_in, Else-not-re
 
 -- what each test has shown where the code goes on
 year_ok : (c : goal.Else-not-real_year) → real_year c.args.r.label ≡ true
-year_ok c = holds c.real_year.ensures c.if-not-real_year.false-raw
+year_ok c = sym c.real_year.ensures ∙ c.if-not-real_year.false
 
 month_ok : (c : goal.Else-not-real_month) → real_month c.args.r.label ≡ true
-month_ok c = holds c.real_month.ensures c.if-not-real_month.false-raw
+month_ok c = sym c.real_month.ensures ∙ c.if-not-real_month.false
 
 day_told : (c : goal.After-day_in) → c.day_in.result ≡ real_day c.args.r.label
 unfolding real_day
@@ -26,15 +24,15 @@ day_told c =
     ∙ ap (λ (n : ℕ). day_in n c.args.r.label) c.month_length-days.ensures
 
 day_ok : (c : goal.Else-not-day_in) → real_day c.args.r.label ≡ true
-day_ok c = holds (day_told c.before) c.if-not-day_in.false-raw
+day_ok c = sym (day_told c.before) ∙ c.if-not-day_in.false
 
 pub returns-then-not-real_year : goal.returns-then-not-real_year
 unfolding judged
-returns-then-not-real_year c = refused _ _ (fails c.real_year.ensures c.if-not-real_year.true-raw)
+returns-then-not-real_year c = refused _ _ (sym c.real_year.ensures ∙ c.if-not-real_year.true)
 
 pub returns-then-not-real_month : goal.returns-then-not-real_month
 unfolding judged
-returns-then-not-real_month c = passed _ (year_ok (goal.at.returns-then-not-real_month c).Else-not-real_year) (refused _ _ (fails c.real_month.ensures c.if-not-real_month.true-raw))
+returns-then-not-real_month c = passed _ (year_ok (goal.at.returns-then-not-real_month c).Else-not-real_year) (refused _ _ (sym c.real_month.ensures ∙ c.if-not-real_month.true))
 
 pub overflow_mul-number : goal.overflow_mul-number
 unfolding judged
@@ -53,19 +51,14 @@ overflow_add-number c = let y = year_to _ (year_ok (goal.at.overflow_add-number 
 
 pub returns-then-not-day_in : goal.returns-then-not-day_in
 unfolding judged
-returns-then-not-day_in c = let e2 = c in
-    passed _ (year_ok (goal.at.returns-then-not-day_in c).Else-not-real_year) (passed _ (month_ok (goal.at.returns-then-not-day_in c).Else-not-real_month) (refused _ _ (fails (day_told (goal.at.returns-then-not-day_in c).After-day_in) c.if-not-day_in.true-raw)))
+returns-then-not-day_in c = passed _ (year_ok (goal.at.returns-then-not-day_in c).Else-not-real_year) (passed _ (month_ok (goal.at.returns-then-not-day_in c).Else-not-real_month) (refused _ _ (sym (day_told (goal.at.returns-then-not-day_in c).After-day_in) ∙ c.if-not-day_in.true)))
 
 pub returns-then-not-real_clock : goal.returns-then-not-real_clock
 unfolding judged
-returns-then-not-real_clock c = let e3 = c in
-    let e2 = e3 in
-    passed _ (year_ok (goal.at.returns-then-not-real_clock c).Else-not-real_year) (passed _ (month_ok (goal.at.returns-then-not-real_clock c).Else-not-real_month) (passed _ (day_ok (goal.at.returns-then-not-real_clock c).Else-not-day_in) (refused _ _ (fails c.real_clock.ensures c.if-not-real_clock.true-raw))))
+returns-then-not-real_clock c = passed _ (year_ok (goal.at.returns-then-not-real_clock c).Else-not-real_year) (passed _ (month_ok (goal.at.returns-then-not-real_clock c).Else-not-real_month) (passed _ (day_ok (goal.at.returns-then-not-real_clock c).Else-not-day_in) (refused _ _ (sym c.real_clock.ensures ∙ c.if-not-real_clock.true))))
 
 pub returns : goal.returns
 unfolding judged
-returns c = let e3 = c in
-    let e2 = e3 in
-    let l = e2.args.r.label in
-    passed _ (year_ok (goal.at.returns c).Else-not-real_year) (passed _ (month_ok (goal.at.returns c).Else-not-real_month) (passed _ (day_ok (goal.at.returns c).Else-not-day_in) (passed _ (holds c.real_clock.ensures c.if-not-real_clock.false-raw)
-    (ap (λ (n : ℕ). Real (record { number = month_of l; days = n })) e3.month_length-days.ensures))))
+returns c = let l = c.args.r.label in
+    passed _ (year_ok (goal.at.returns c).Else-not-real_year) (passed _ (month_ok (goal.at.returns c).Else-not-real_month) (passed _ (day_ok (goal.at.returns c).Else-not-day_in) (passed _ (sym c.real_clock.ensures ∙ c.if-not-real_clock.false)
+    (ap (λ (n : ℕ). Real (record { number = month_of l; days = n })) c.month_length-days.ensures))))
