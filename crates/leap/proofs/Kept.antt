@@ -3,7 +3,7 @@
 use Prim.Native.Nat.{suc, ◌≤◌, ◌<◌}
 use mathlib.Core.Path.{◌≡◌, refl, sym, ap, ap₂, subst}
 use mathlib.Core.Logic.{◌⊎◌, inl, inr}
-use mathlib.Core.Bool.{true, false}
+use mathlib.Core.Bool.{true}
 use mathlib.Core.List.{List, [], ◌∷◌, ◌++◌, reverse, reverse-cons}
 use native.Mathlib.Omega.{arith}
 use lib.IntN.{ℤ}
@@ -11,7 +11,6 @@ use lib.ListN.{length}
 use lib.Signed.{mag}
 use Rattle.laws.specs.Tests.{All}
 use Rattle.laws.proofs.Cases.{by_test}
-use Rattle.leap.specs.declared.Table.{Table}
 use Rattle.leap.specs.Leap.{accepted}
 use Rattle.leap.specs.Entries.{Entry, table_of}
 use Rattle.leap.specs.Readers.{judged}

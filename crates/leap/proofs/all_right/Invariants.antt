@@ -1,11 +1,7 @@
-use mathlib.Core.Path.{◌≡◌, subst, ◌∙◌}
-use Prim.Native.Nat.{ℕ, ◌-◌, ◌≤◌}
-use native.Mathlib.Omega.{arith}
-use borrow.Author.Rules.{rules, sfits_of}
+use mathlib.Core.Path.{◌≡◌}
+use Prim.Native.Nat.{◌-◌, ◌≤◌}
 use Rattle.laws.specs.Tests.{all_below}
-use Rattle.laws.proofs.Machine.{read1}
-use Rattle.leap.specs.Leap.{tabled, entry_month, unused_right, place_right}
-use Rattle.leap.proofs.Places.{unused_is, one_more}
+use Rattle.leap.specs.Leap.{tabled, place_right}
 use Rattle.leap.proofs.all_right.Given as goal
 
 abbrev pub invariant-loop-k : goal.invariant-loop-k

@@ -1,5 +1,4 @@
 -- The code adds one month in place of taking one away.
-use borrow.Author.Rules.{rules}
 use Rattle.leap.proofs.Vouched.{none_beyond, beyond_is}
 use Rattle.leap.proofs.beyond.Goals as goal
 

@@ -1,6 +1,5 @@
 -- The table that is made, as an answer.
 use mathlib.Core.Path.{ap}
-use borrow.Author.Rules.{rules}
 use Rattle.leap.specs.Readers.{found}
 use Rattle.leap.proofs.found.Goals as goal
 

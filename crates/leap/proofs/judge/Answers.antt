@@ -1,6 +1,5 @@
 -- Accepted or not.
 use mathlib.Core.Path.{sym, ◌∙◌}
-use borrow.Author.Rules.{rules}
 use Rattle.laws.proofs.Branches.{cond_yes, cond_rest}
 use Rattle.leap.proofs.judge.Goals as goal
 

@@ -1,10 +1,7 @@
 -- Among the entries up to k the last that has begun is the last of all: those past k have not.
-use mathlib.Core.Path.{◌≡◌, refl, sym, ◌∙◌}
-use Prim.Native.Nat.{◌<◌}
+use mathlib.Core.Path.{refl, sym, ◌∙◌}
 use native.Mathlib.Omega.{arith}
-use borrow.Author.Rules.{rules}
 use borrow.Author.Tests.{leb-true, leb-false}
-use Rattle.leap.specs.Leap.{last_begun}
 use Rattle.leap.proofs.Begun.{begun_all, begun_before, begun_first}
 use Rattle.leap.proofs.last_begun.Goals as goal
 

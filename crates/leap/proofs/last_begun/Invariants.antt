@@ -1,10 +1,6 @@
-use mathlib.Core.Path.{◌≡◌, refl, sym, ◌∙◌}
+use mathlib.Core.Path.{◌≡◌}
 use Prim.Native.Nat.{◌<◌}
-use native.Mathlib.Omega.{arith}
-use borrow.Author.Rules.{rules}
-use borrow.Author.Tests.{leb-true, leb-false}
 use Rattle.leap.specs.Leap.{last_begun}
-use Rattle.leap.proofs.Begun.{begun_all, begun_before, begun_first}
 use Rattle.leap.proofs.last_begun.Given as goal
 
 abbrev pub invariant-loop-k : goal.invariant-loop-k

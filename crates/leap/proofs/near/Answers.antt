@@ -1,9 +1,11 @@
 -- The entry of the month after is met first, and that of the month itself from there on down.
 use mathlib.Core.Path.{◌≡◌, ap, ◌∙◌}
 use Prim.Native.Nat.{ℕ, ◌+◌}
-use borrow.Author.Rules.{rules, sfits_of}
+use borrow.Author.Rules.{rules}
 use lib.IntN.{ℤ, pos}
 use lib.ListN.{get_or}
+use mir.Syntax.{w32}
+use mir.Val.{SFits}
 use mir.Facts.{to_z-of_z}
 use Rattle.leap.specs.Leap.{last_begun, top, offset_in}
 use Rattle.leap.proofs.Begun.{begun_within}
@@ -17,6 +19,8 @@ returns c =
     let after : c.last_begun-after.result ≡ begun (a.m + 1) (top a.count) = c.last_begun-after.ensures.0 ∙ ap (begun (a.m + 1)) c.top_of.ensures.0 in
     let at : c.last_begun-at.result ≡ begun a.m (top a.count) = c.last_begun-at.ensures.0 ∙ ap (begun a.m) after ∙ begun_within a.months.now a.m (top a.count) in
     let offset : ℕ → ℤ = λ (k : ℕ). get_or a.offsets.now k (pos 0) in
-    let here = to_z-of_z (sfits_of c.result-1.given) ∙ ap offset at in
-    let next = to_z-of_z (sfits_of c.result-2-1.given) ∙ ap offset after in
+    let here-fits : SFits w32 (offset c.last_begun-at.result) = search rules in
+    let next-fits : SFits w32 (offset c.last_begun-after.result) = search rules in
+    let here = to_z-of_z {w = w32} here-fits ∙ ap offset at in
+    let next = to_z-of_z {w = w32} next-fits ∙ ap offset after in
     λ i. record { here = here i; next = next i }

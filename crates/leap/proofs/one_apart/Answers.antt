@@ -2,7 +2,6 @@
 use mathlib.Core.Path.{ap₂}
 use mathlib.Core.Bool.{◌||◌}
 use lib.IntN.{suc_ℤ}
-use borrow.Author.Rules.{rules}
 use Rattle.laws.specs.Tests.{eq_z}
 use Rattle.laws.proofs.Machine.{read2}
 use Rattle.leap.specs.Leap.{one_apart}

@@ -1,5 +1,4 @@
 -- The code compares the number and not the month.
-use borrow.Author.Rules.{rules}
 use Rattle.leap.proofs.Vouched.{none_right, early_wrong, rest_right}
 use Rattle.leap.proofs.vouched_right.Goals as goal
 
