@@ -9,4 +9,4 @@ use Rattle.automaton.proofs.behind_date.Goals as goal
 
 pub returns : goal.returns
 unfolding reached
-returns c = let b = c.args.b in let e : c.pick-2.result ≡ cond (is_between b) 20 (cond (eqb b 41) 2 0) = rw (c.pick-2.ensures, c.pick.ensures, c.is_between.ensures) in ap (reached at b) e ∙ led2 at b (is_between b) (eqb b 41) 20 2 0 refl
+returns c at = let b = c.args.b in let e : c.pick-2.result ≡ cond (is_between b) 20 (cond (eqb b 41) 2 0) = rw (c.pick-2.ensures, c.pick.ensures, c.is_between.ensures) in ap (reached at b) e ∙ led2 at b (is_between b) (eqb b 41) 20 2 0 refl

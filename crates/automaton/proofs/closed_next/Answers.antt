@@ -9,4 +9,4 @@ use Rattle.automaton.proofs.closed_next.Goals as goal
 
 pub returns : goal.returns
 unfolding reached
-returns c = let b = c.args.b in let e : c.pick-2.result ≡ cond (eqb b 10) 6 (cond (is_white b) 3 0) = rw (c.pick-2.ensures, c.pick.ensures, c.is_white.ensures) in ap (reached at b) e ∙ led2 at b (eqb b 10) (is_white b) 6 3 0 refl
+returns c at = let b = c.args.b in let e : c.pick-2.result ≡ cond (eqb b 10) 6 (cond (is_white b) 3 0) = rw (c.pick-2.ensures, c.pick.ensures, c.is_white.ensures) in ap (reached at b) e ∙ led2 at b (eqb b 10) (is_white b) 6 3 0 refl

@@ -8,4 +8,4 @@ use Rattle.automaton.proofs.first_next.Goals as goal
 
 pub returns : goal.returns
 unfolding reached
-returns c = let b = c.args.b in let e : c.pick.result ≡ cond (is_between b) 19 c.to_pair.result = rw (c.pick.ensures, c.is_between.ensures) in ap (reached at b) e ∙ led1 at b (is_between b) 19 c.to_pair.result (c.to_pair.ensures at)
+returns c at = let b = c.args.b in let e : c.pick.result ≡ cond (is_between b) 19 c.to_pair.result = rw (c.pick.ensures, c.is_between.ensures) in ap (reached at b) e ∙ led1 at b (is_between b) 19 c.to_pair.result (c.to_pair.ensures at)

@@ -9,4 +9,4 @@ use Rattle.automaton.proofs.fresh_next.Goals as goal
 
 pub returns : goal.returns
 unfolding reached
-returns c = let b = c.args.b in let e : c.pick-2.result ≡ cond (eqb b 92) 7 (cond (is_white b) 1 c.gap_next.result) = rw (c.pick-2.ensures, c.pick.ensures, c.is_white.ensures) in ap (reached at b) e ∙ led2 at b (eqb b 92) (is_white b) 7 1 c.gap_next.result (c.gap_next.ensures at)
+returns c at = let b = c.args.b in let e : c.pick-2.result ≡ cond (eqb b 92) 7 (cond (is_white b) 1 c.gap_next.result) = rw (c.pick-2.ensures, c.pick.ensures, c.is_white.ensures) in ap (reached at b) e ∙ led2 at b (eqb b 92) (is_white b) 7 1 c.gap_next.result (c.gap_next.ensures at)

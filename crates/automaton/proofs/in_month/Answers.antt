@@ -1,5 +1,4 @@
 -- `automaton::in_month` meets its contract.
-use borrow.Author.Rules.{rules}
 use Rattle.laws.proofs.Branches.{if_less, if_not_less}
 use Rattle.automaton.proofs.in_month.Goals as goal
 

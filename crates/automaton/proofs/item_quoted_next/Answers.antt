@@ -8,4 +8,4 @@ use Rattle.automaton.proofs.item_quoted_next.Goals as goal
 
 pub returns : goal.returns
 unfolding reached
-returns c = let b = c.args.b in let e : c.pick.result ≡ cond (eqb b 39) 15 c.behind_item.result = rw c.pick.ensures in ap (reached at b) e ∙ led1 at b (eqb b 39) 15 c.behind_item.result (c.behind_item.ensures at)
+returns c at = let b = c.args.b in let e : c.pick.result ≡ cond (eqb b 39) 15 c.behind_item.result = rw c.pick.ensures in ap (reached at b) e ∙ led1 at b (eqb b 39) 15 c.behind_item.result (c.behind_item.ensures at)

@@ -8,4 +8,4 @@ use Rattle.automaton.proofs.item_run_next.Goals as goal
 
 pub returns : goal.returns
 unfolding reached
-returns c = let b = c.args.b in let e : c.pick.result ≡ cond (is_run b) 14 c.behind_item.result = rw (c.pick.ensures, c.is_run.ensures) in ap (reached at b) e ∙ led1 at b (is_run b) 14 c.behind_item.result (c.behind_item.ensures at)
+returns c at = let b = c.args.b in let e : c.pick.result ≡ cond (is_run b) 14 c.behind_item.result = rw (c.pick.ensures, c.is_run.ensures) in ap (reached at b) e ∙ led1 at b (is_run b) 14 c.behind_item.result (c.behind_item.ensures at)

@@ -9,4 +9,4 @@ use Rattle.automaton.proofs.items_next.Goals as goal
 
 pub returns : goal.returns
 unfolding reached
-returns c = let b = c.args.b in let e : c.pick-2.result ≡ cond (is_between b) 13 (cond (eqb b 41) 2 c.to_item.result) = rw (c.pick-2.ensures, c.pick.ensures, c.is_between.ensures) in ap (reached at b) e ∙ led2 at b (is_between b) (eqb b 41) 13 2 c.to_item.result (c.to_item.ensures at)
+returns c at = let b = c.args.b in let e : c.pick-2.result ≡ cond (is_between b) 13 (cond (eqb b 41) 2 c.to_item.result) = rw (c.pick-2.ensures, c.pick.ensures, c.is_between.ensures) in ap (reached at b) e ∙ led2 at b (is_between b) (eqb b 41) 13 2 c.to_item.result (c.to_item.ensures at)

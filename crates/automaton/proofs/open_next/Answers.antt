@@ -8,4 +8,4 @@ use Rattle.automaton.proofs.open_next.Goals as goal
 
 pub returns : goal.returns
 unfolding reached
-returns c = let b = c.args.b in let e : c.pick.result ≡ cond (is_between b) 12 c.to_item.result = rw (c.pick.ensures, c.is_between.ensures) in ap (reached at b) e ∙ led1 at b (is_between b) 12 c.to_item.result (c.to_item.ensures at)
+returns c at = let b = c.args.b in let e : c.pick.result ≡ cond (is_between b) 12 c.to_item.result = rw (c.pick.ensures, c.is_between.ensures) in ap (reached at b) e ∙ led1 at b (is_between b) 12 c.to_item.result (c.to_item.ensures at)

@@ -8,4 +8,4 @@ use Rattle.automaton.proofs.plus_next.Goals as goal
 
 pub returns : goal.returns
 unfolding reached
-returns c = let b = c.args.b in let e : c.pick.result ≡ cond (eqb b 61) 10 0 = rw c.pick.ensures in ap (reached at b) e ∙ led1 at b (eqb b 61) 10 0 refl
+returns c at = let b = c.args.b in let e : c.pick.result ≡ cond (eqb b 61) 10 0 = rw c.pick.ensures in ap (reached at b) e ∙ led1 at b (eqb b 61) 10 0 refl

@@ -8,4 +8,4 @@ use Rattle.automaton.proofs.quote_next.Goals as goal
 
 pub returns : goal.returns
 unfolding reached
-returns c = let b = c.args.b in let e : c.pick-2.result ≡ cond (eqb b 39) 5 (cond (eqb b 10 || eqb b 92) 0 11) = rw (c.pick-2.ensures, c.pick.ensures) in ap (reached at b) e ∙ led2 at b (eqb b 39) (eqb b 10 || eqb b 92) 5 0 11 refl
+returns c at = let b = c.args.b in let e : c.pick-2.result ≡ cond (eqb b 39) 5 (cond (eqb b 10 || eqb b 92) 0 11) = rw (c.pick-2.ensures, c.pick.ensures) in ap (reached at b) e ∙ led2 at b (eqb b 39) (eqb b 10 || eqb b 92) 5 0 11 refl

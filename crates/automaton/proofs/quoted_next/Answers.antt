@@ -8,4 +8,4 @@ use Rattle.automaton.proofs.quoted_next.Goals as goal
 
 pub returns : goal.returns
 unfolding reached
-returns c = let b = c.args.b in let e : c.pick.result ≡ cond (eqb b 39) 11 c.gap_next.result = rw c.pick.ensures in ap (reached at b) e ∙ led1 at b (eqb b 39) 11 c.gap_next.result (c.gap_next.ensures at)
+returns c at = let b = c.args.b in let e : c.pick.result ≡ cond (eqb b 39) 11 c.gap_next.result = rw c.pick.ensures in ap (reached at b) e ∙ led1 at b (eqb b 39) 11 c.gap_next.result (c.gap_next.ensures at)
