@@ -1,5 +1,4 @@
 -- The text is the one of the definition.
-use borrow.Author.Rules.{rules}
 use Rattle.phrases.proofs.Puts.{puts_as}
 use Rattle.phrases.proofs.put_help.Goals as goal
 

@@ -1,5 +1,4 @@
 -- The names are those of the definition.
-use borrow.Author.Rules.{rules}
 use mathlib.Core.Path.{ap}
 use mathlib.Core.List.{List}
 use Prim.Native.Nat.{ℕ}
@@ -9,6 +8,4 @@ use Rattle.phrases.proofs.put_month.Goals as goal
 
 pub returns : goal.returns
 returns c =
-    let last = c in
-    let m = last in
-    puts_as (ap (λ (l : List ℕ). line_of l m.args.month) m.months-months.ensures) last.put_line.ensures
+    puts_as (ap (λ (l : List ℕ). line_of l c.args.month) c.months-months.ensures) c.put_line.ensures

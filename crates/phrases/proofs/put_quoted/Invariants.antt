@@ -1,14 +1,7 @@
-use mathlib.Core.Path.{◌≡◌, refl, sym, ap, ◌∙◌}
-use mathlib.Core.List.{[], ◌∷◌, ◌++◌}
-use Prim.Native.Nat.{ℕ, ◌+◌, ◌-◌, ◌≤◌}
-use native.Mathlib.Omega.{arith}
-use borrow.Author.Rules.{rules}
+use Prim.Native.Nat.{◌-◌, ◌≤◌}
 use lib.ListN.{length, take}
-use lib.Seq.{take_all}
 use Rattle.phrases.specs.Puts.{Puts}
 use Rattle.phrases.specs.Parts.{quoted}
-use Rattle.phrases.proofs.Puts.{puts_none, puts_as, size_into, then}
-use Rattle.phrases.proofs.Parts.{quoted_more}
 use Rattle.phrases.proofs.put_quoted.Given as goal
 
 abbrev pub invariant-loop-i : goal.invariant-loop-i

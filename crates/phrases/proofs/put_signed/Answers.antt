@@ -1,5 +1,4 @@
 -- The digits fit 21 bytes.
-use borrow.Author.Rules.{rules}
 use lib.ListN.{replicate}
 use Rattle.digits.specs.Decimals.{signed_text}
 use Rattle.digits.proofs.Decimals.{signed_few}
@@ -10,7 +9,5 @@ use Rattle.phrases.proofs.put_signed.Goals as goal
 
 pub returns : goal.returns
 returns c =
-    let last = c in
-    let text = last in
-    let z = to_z-of_z text.ranges.z in
-    puts_as (in_front (replicate 21 0) _ (signed_few _) text.append_signed-k.ensures ∙ ap signed_text z) last.put.ensures
+    let z = to_z-of_z c.ranges.z in
+    puts_as (in_front (replicate 21 0) _ (signed_few _) c.append_signed-k.ensures ∙ ap signed_text z) c.put.ensures

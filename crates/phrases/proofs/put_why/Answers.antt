@@ -1,5 +1,4 @@
 -- Three texts, one behind another.
-use borrow.Author.Rules.{rules}
 use mathlib.Core.Path.{ap}
 use mathlib.Core.List.{List}
 use Prim.Native.Nat.{ℕ}
@@ -11,9 +10,5 @@ use Rattle.phrases.proofs.put_why.Goals as goal
 pub returns : goal.returns
 unfolding why_text
 returns c =
-    let d = c in
-    let b = d in
-    let a = b in
-    let texts = a in
-    then a.put_named-a.ensures (then b.put-b.ensures
-    (puts_as (ap (λ (t : List ℕ). line_of t texts.args.number) texts.advice-advice.ensures) d.put_line.ensures))
+    then c.put_named-a.ensures (then c.put-b.ensures
+    (puts_as (ap (λ (t : List ℕ). line_of t c.args.number) c.advice-advice.ensures) c.put_line.ensures))

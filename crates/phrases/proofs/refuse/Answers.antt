@@ -1,5 +1,4 @@
 -- Number and sentence are those of the refusal.
-use borrow.Author.Rules.{rules}
 use mathlib.Core.Path.{ap}
 use Prim.Native.Nat.{ℕ}
 use Rattle.phrases.specs.Replies.{refusing_as}
@@ -8,6 +7,4 @@ use Rattle.phrases.proofs.refuse.Goals as goal
 
 pub returns : goal.returns
 returns c =
-    let r = c in
-    let n = r in
-    says_as (ap (λ (k : ℕ). refusing_as k k n.args.given.now) n.number_of-n.ensures) r.refuse_as.ensures
+    says_as (ap (λ (k : ℕ). refusing_as k k c.args.given.now) c.number_of-n.ensures) c.refuse_as.ensures

@@ -1,10 +1,7 @@
-use mathlib.Core.Path.{◌≡◌, sym, ap, ◌∙◌}
+use mathlib.Core.Path.{◌≡◌}
 use Prim.Native.Nat.{◌+◌, ◌-◌, ◌≤◌}
-use native.Mathlib.Omega.{arith}
-use borrow.Author.Rules.{rules}
 use lib.ListN.{length, drop}
-use Rattle.phrases.specs.Parts.{begins_with, up_to}
-use Rattle.phrases.proofs.Parts.{rest_is, up_here, up_more, up_end}
+use Rattle.phrases.specs.Parts.{up_to}
 use Rattle.phrases.proofs.up_to.Given as goal
 
 abbrev pub invariant-loop-i : goal.invariant-loop-i
