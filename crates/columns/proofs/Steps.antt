@@ -1,9 +1,9 @@
 -- A plain decimal found step by step: what stands behind each part of the field is what the definition looks at next.
 -- Assumes nothing.
-use Prim.Native.Nat.{ℕ, ◌+◌, ◌-◌, ◌*◌, ◌≤◌, ◌<◌}
+use Prim.Native.Nat.{ℕ, ◌+◌, ◌-◌, ◌≤◌, ◌<◌}
 use mathlib.Core.Path.{◌≡◌, refl, sym, ap, ap₂, ◌∙◌}
 use mathlib.Core.Bool.{Bool, true, false, cond, ◌&&◌}
-use mathlib.Core.List.{List, [], ◌∷◌, ◌++◌}
+use mathlib.Core.List.{List, ◌++◌}
 use native.Mathlib.Nat.{zero-add, add-zero}
 use native.Mathlib.Omega.{arith}
 use borrow.Author.Tests.{le-leb, lt-leb, ne_eqb, eq-eqb}
@@ -12,7 +12,7 @@ use lib.ListN.{length, drop, get_or, length-drop}
 use lib.Seq.{drop-drop, get_or-drop}
 use Rattle.laws.proofs.Branches.{and_no, cond_rest}
 use Rattle.laws.proofs.Cases.{join}
-use Rattle.digits.specs.Decimals.{is_digit, digit_value, spelled}
+use Rattle.digits.specs.Decimals.{is_digit, spelled}
 use Rattle.digits.proofs.Decimals.{spelled_append}
 use Rattle.lines.specs.Words.{leading, is_blank}
 use Rattle.lines.proofs.Words.{leading_short}

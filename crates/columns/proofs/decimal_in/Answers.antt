@@ -1,7 +1,5 @@
 -- Each part is found where the one before it ends.
-use Prim.Native.Nat.{◌<◌}
 use native.Mathlib.Omega.{arith}
-use borrow.Author.Rules.{rules}
 use lib.Dec.{lit<}
 use native.Mathlib.Nat.{one-le-pow}
 use Rattle.columns.proofs.Fields.{later_low}
@@ -12,13 +10,11 @@ use Rattle.columns.proofs.decimal_in.Goals.{After-past_digits-all}
 module _ (c : goal.After-past_digits-all) where
   found : Found c.args.s.now c.past_blanks-from.result c.past_sign-first.result c.past_digits-whole.result.number c.past_digits-whole.result.end c.past_point-behind.result c.past_digits-all.result.number c.past_digits-all.result.end
   found =
-      let d = c.before.before in
-      let g = d.before.before in
       record {
-        short = g.if-s-gt18.false;
-        blanks = g.past_blanks-from.ensures.0;
-        sign = d.past_sign-first.ensures;
-        whole = d.past_digits-whole.ensures;
+        short = c.if-s-gt18.false;
+        blanks = c.past_blanks-from.ensures.value;
+        sign = c.past_sign-first.ensures;
+        whole = c.past_digits-whole.ensures;
         point = c.past_point-behind.ensures;
         rest = c.past_digits-all.ensures;
       }
@@ -27,7 +23,7 @@ pub returns-then-s-gt18 : goal.returns-then-s-gt18
 returns-then-s-gt18 c = too_long _ c.if-s-gt18.true
 
 pub past_sign-first-requires : goal.past_sign-first-requires
-past_sign-first-requires c = c.past_blanks-from.ensures.1.0 (omega arith)
+past_sign-first-requires c = c.past_blanks-from.ensures.upper_bound.0 (omega arith)
 
 pub past_digits-whole-requires : goal.past_digits-whole-requires
 past_digits-whole-requires c = (c.past_sign-first.ensures.inside, (c.if-s-gt18.false, one-le-pow c.past_sign-first.result 10 (lit< tt)))
@@ -42,7 +38,7 @@ pub returns-then-whole-first-lt1 : goal.returns-then-whole-first-lt1
 returns-then-whole-first-lt1 c = no_digit (found (goal.at.returns-then-whole-first-lt1 c).After-past_digits-all) c.if-whole-first-lt1.true
 
 pub returns-then-past_blanks-s : goal.returns-then-past_blanks-s
-returns-then-past_blanks-s c = not_blank (found (goal.at.returns-then-past_blanks-s c).After-past_digits-all) c.past_blanks.ensures.0 c.if-past_blanks-s.true
+returns-then-past_blanks-s c = not_blank (found (goal.at.returns-then-past_blanks-s c).After-past_digits-all) c.past_blanks.ensures.value c.if-past_blanks-s.true
 
 pub returns : goal.returns
-returns c = let k = c in is_plain (found (goal.at.returns c).After-past_digits-all) k.past_blanks.ensures.0 c.if-past_blanks-s.false k.if-whole-first-lt1.false c.byte_at.ensures
+returns c = is_plain (found (goal.at.returns c).After-past_digits-all) c.past_blanks.ensures.value c.if-past_blanks-s.false c.if-whole-first-lt1.false c.byte_at.ensures

@@ -1,7 +1,6 @@
 -- Column 1 is looked at.
 use mathlib.Core.Path.{ap}
 use mathlib.Core.Bool.{◌||◌}
-use borrow.Author.Rules.{rules}
 use lib.Dec.{eqb}
 use Rattle.columns.proofs.is_comment.Goals as goal
 

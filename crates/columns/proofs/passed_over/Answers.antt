@@ -3,7 +3,6 @@ use Prim.Native.Nat.{ℕ}
 use mathlib.Core.Path.{◌≡◌, sym, ◌∙◌}
 use mathlib.Core.Bool.{Bool, true, false, ◌||◌}
 use mathlib.Core.List.{List}
-use borrow.Author.Rules.{rules}
 use Rattle.laws.proofs.Cases.{or_r}
 use Rattle.columns.specs.Columns.{all_blank, is_comment, passed_over}
 use Rattle.columns.proofs.passed_over.Goals as goal

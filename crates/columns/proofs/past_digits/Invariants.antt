@@ -1,9 +1,6 @@
 use Prim.Native.Nat.{◌-◌}
-use native.Mathlib.Omega.{arith}
-use borrow.Author.Rules.{rules}
 use lib.ListN.{length}
-use Rattle.laws.proofs.Branches.{fails, holds}
-use Rattle.columns.proofs.Fields.{Reads, reads_none, reads_low, reads_more, reads_stop, reads_end}
+use Rattle.columns.proofs.Fields.{Reads}
 use Rattle.columns.proofs.past_digits.Given as goal
 
 abbrev pub invariant-loop-i : goal.invariant-loop-i

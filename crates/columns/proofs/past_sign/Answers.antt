@@ -2,7 +2,6 @@
 use mathlib.Core.Path.{◌≡◌}
 use mathlib.Core.Bool.{false}
 use native.Mathlib.Omega.{arith}
-use borrow.Author.Rules.{rules}
 use borrow.Author.Tests.{eq-eqb, ne_eqb}
 use lib.Dec.{eqb}
 use Rattle.laws.proofs.Cases.{or_l, or_r}
@@ -12,21 +11,15 @@ use Rattle.columns.proofs.past_sign.Goals as goal
 
 pub returns-then-b-eq43 : goal.returns-then-b-eq43
 returns-then-b-eq43 c =
-    let k = c in
-    let s = k in
-    let l = there is_sign s.args.s.now s.args.i k.byte_at-b.ensures s.requires (λ e. omega (arith, c.if-b-eq43.true)) in
-    one_there is_sign s.args.s.now s.args.i k.byte_at-b.ensures l (or_l _ (eq-eqb _ _ c.if-b-eq43.true))
+    let l = there is_sign c.args.s.now c.args.i c.byte_at-b.ensures c.requires (λ e. omega (arith, c.if-b-eq43.true)) in
+    one_there is_sign c.args.s.now c.args.i c.byte_at-b.ensures l (or_l _ (eq-eqb _ _ c.if-b-eq43.true))
 
 pub returns-then-b-eq45 : goal.returns-then-b-eq45
 returns-then-b-eq45 c =
-    let k = c in
-    let s = k in
-    let l = there is_sign s.args.s.now s.args.i k.byte_at-b.ensures s.requires (λ e. omega (arith, c.if-b-eq45.true)) in
-    one_there is_sign s.args.s.now s.args.i k.byte_at-b.ensures l (or_r (eqb k.byte_at-b.result 43) (eq-eqb _ _ c.if-b-eq45.true))
+    let l = there is_sign c.args.s.now c.args.i c.byte_at-b.ensures c.requires (λ e. omega (arith, c.if-b-eq45.true)) in
+    one_there is_sign c.args.s.now c.args.i c.byte_at-b.ensures l (or_r (eqb c.byte_at-b.result 43) (eq-eqb _ _ c.if-b-eq45.true))
 
 pub returns : goal.returns
 returns c =
-    let k = c in
-    let s = k in
-    let e : is_sign k.byte_at-b.result ≡ false = rw (ne_eqb _ _ c.if-b-eq43.false, ne_eqb _ _ c.if-b-eq45.false) in
-    one_not is_sign s.args.s.now s.args.i k.byte_at-b.ensures s.requires e
+    let e : is_sign c.byte_at-b.result ≡ false = rw (ne_eqb _ _ c.if-b-eq43.false, ne_eqb _ _ c.if-b-eq45.false) in
+    one_not is_sign c.args.s.now c.args.i c.byte_at-b.ensures c.requires e

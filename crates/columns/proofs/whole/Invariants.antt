@@ -1,7 +1,5 @@
-use mathlib.Core.Path.{◌≡◌, refl, ap, ◌∙◌}
-use native.Mathlib.Omega.{arith}
+use mathlib.Core.Path.{◌≡◌}
 use Rattle.columns.specs.Decimals.{whole_of}
-use Rattle.columns.proofs.Wholes.{whole_not, whole_less, whole_zero, whole_one}
 use Rattle.columns.proofs.whole.Given as goal
 
 abbrev pub invariant-loop-left : goal.invariant-loop-left
