@@ -537,11 +537,11 @@ pairs : {t r : List Entry} {s : List ℕ} (m : Mode) {es : List Entry} {x : List
 unfolding pairs_kept
 pairs {s = s} m g (G.Pairs.last p) q =
     at s p (rows is_between m g.no_entry g.still p.first p.is_first (at s p.is_rest (pair_text g p.is_rest.is_first (λ n d. closing d ended_pairs (λ t. refl) p.is_rest.is_rest q))))
-pairs {t} {r} {s} m g (G.Pairs.more {x = x} {s = y} p i) q =
-    let k = pair_kept p.is_rest.is_first in
+pairs {t = t} {r = r} {s = s} m g (G.Pairs.more {e = e} {es = es} {x = x} {s = y} p i) q =
+    let k = pair_kept {e = e} p.is_rest.is_first in
     let q' = subst (λ l. Reads (Rest Gap) l s r) (sym (append_assoc t (k ∷ []) (pairs_kept i))) q in
     subst (λ l. Reads m t l r) (sym (append_assoc x y s))
-    (at (y ++ s) p (rows is_between m g.no_entry g.still p.first p.is_first (at (y ++ s) p.is_rest (pair_text g p.is_rest.is_first (λ n d. parting d (λ t. refl) p.is_rest.is_rest (pairs (Ours Pairs) at_pairs i q'))))))
+    (at (y ++ s) p (rows is_between m g.no_entry g.still p.first p.is_first (at (y ++ s) p.is_rest (pair_text g p.is_rest.is_first (λ n d. parting d (λ t. refl) p.is_rest.is_rest (pairs {t = t ++ k ∷ []} (Ours Pairs) at_pairs i q'))))))
 
 ours_named : Some is_name ours
 unfolding every
