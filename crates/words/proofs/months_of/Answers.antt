@@ -1,10 +1,9 @@
 -- The loop lays the words over zeros, one a turn.
 use mathlib.Core.Path.{sym, ◌∙◌}
-use Prim.Native.Nat.{◌-◌}
 use native.Mathlib.Omega.{arith}
 use lib.ListN.{replicate}
 use Rattle.words.specs.Words.{words_at}
-use Rattle.words.proofs.Laid.{Laid, laid_none, laid_first, laid_all, place_whole}
+use Rattle.words.proofs.Laid.{laid_none, laid_first, laid_all, place_whole}
 use Rattle.words.proofs.Words.{length_at, at_is}
 use Rattle.words.proofs.months_of.Goals as goal
 

@@ -1,5 +1,4 @@
 -- Below 2^31 the number itself, and from there its distance from -1.
-use borrow.Author.Rules.{rules}
 use Rattle.words.proofs.Bits.{above_fits, above_is}
 use Rattle.words.proofs.offset_of.Goals as goal
 

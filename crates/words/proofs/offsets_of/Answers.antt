@@ -1,14 +1,14 @@
 -- The loop lays the numbers of the words over zeros, one a turn.
 use mathlib.Core.Path.{◌≡◌, sym, ap, ◌∙◌}
 use mathlib.Core.List.{List, map}
-use Prim.Native.Nat.{ℕ, ◌+◌, ◌-◌, ◌<◌}
+use Prim.Native.Nat.{ℕ, ◌+◌, ◌<◌}
 use native.Mathlib.Omega.{arith}
 use lib.IntN.{pos}
 use lib.ListN.{length, replicate, get_or, length-map, get_or-map}
+use mir.Syntax.{w32}
 use mir.Facts.{to_z-of_z}
-use borrow.Author.Rules.{rules}
 use Rattle.words.specs.Words.{words_at, offset_from}
-use Rattle.words.proofs.Laid.{Laid, laid_none, laid_first, laid_all, place_whole}
+use Rattle.words.proofs.Laid.{laid_none, laid_first, laid_all, place_whole}
 use Rattle.words.proofs.Words.{length_at, at_is}
 use Rattle.words.proofs.offsets_of.Goals as goal
 
@@ -26,7 +26,7 @@ loop-k-preserved c = let t = c in
     let p = t in
     let words = p.args.words.now in
     laid_first (pos 0) p.loop-k.invariant (omega (arith, long words))
-    (to_z-of_z (record { sfits = c.offset_of.type_inv }) ∙ c.offset_of.ensures ∙ sym (offset_at words p.loop-k.k t.loop-k-test.true))
+    (to_z-of_z {w = w32} (record { sfits = c.offset_of.type_inv }) ∙ c.offset_of.ensures ∙ sym (offset_at words p.loop-k.k t.loop-k-test.true))
 
 pub returns : goal.returns
 returns c = let words = c.args.words.now in

@@ -1,14 +1,9 @@
-use mathlib.Core.Path.{◌≡◌, sym, ap, ◌∙◌}
-use mathlib.Core.List.{List, map}
-use Prim.Native.Nat.{ℕ, ◌+◌, ◌-◌, ◌<◌}
-use native.Mathlib.Omega.{arith}
+use mathlib.Core.List.{map}
+use Prim.Native.Nat.{◌-◌}
 use lib.IntN.{pos}
-use lib.ListN.{length, replicate, get_or, length-map, get_or-map}
-use mir.Facts.{to_z-of_z}
-use borrow.Author.Rules.{rules}
+use lib.ListN.{replicate}
 use Rattle.words.specs.Words.{words_at, offset_from}
-use Rattle.words.proofs.Laid.{Laid, laid_none, laid_first, laid_all, place_whole}
-use Rattle.words.proofs.Words.{length_at, at_is}
+use Rattle.words.proofs.Laid.{Laid}
 use Rattle.words.proofs.offsets_of.Given as goal
 
 abbrev pub invariant-loop-k : goal.invariant-loop-k

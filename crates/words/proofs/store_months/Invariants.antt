@@ -1,8 +1,5 @@
-use mathlib.Core.Path.{◌≡◌, refl}
 use Prim.Native.Nat.{◌-◌}
-use native.Mathlib.Omega.{arith}
-use lib.ListN.{length}
-use Rattle.words.proofs.Laid.{Laid, laid_none, laid_next, laid_all}
+use Rattle.words.proofs.Laid.{Laid}
 use Rattle.words.proofs.store_months.Given as goal
 
 abbrev pub invariant-loop-k : goal.invariant-loop-k

@@ -1,7 +1,6 @@
 -- The loop lays the words of the offsets over what stands there, one a turn.
 use mathlib.Core.Path.{◌≡◌, sym, ap, ◌∙◌}
 use mathlib.Core.List.{map}
-use Prim.Native.Nat.{◌-◌}
 use native.Mathlib.Omega.{arith}
 use lib.IntN.{pos}
 use lib.ListN.{length, get_or, length-map, get_or-map}
@@ -9,27 +8,27 @@ use mir.Syntax.{w32}
 use mir.Facts.{to_z-of_z}
 use borrow.Author.Rules.{rules}
 use Rattle.words.specs.Words.{offset_word}
-use Rattle.words.proofs.Laid.{Laid, laid_none, laid_next, laid_all}
+use Rattle.words.proofs.Laid.{laid_none, laid_next, laid_all}
 use Rattle.words.proofs.store_offsets.Goals as goal
 use Rattle.words.proofs.store_offsets.Goals.{Start}
 
 -- an array by value has as many elements as its type says
-long : (c : goal.Start) → length c.args.t1 ≡ 64
-long c = c.well_formed.0.1.0.1
+long : (c : goal.Start) → length c.args.offsets ≡ 64
+long c = search rules
 
-words_long : (c : goal.Start) → length (map offset_word c.args.t1) ≡ 64
-words_long c = length-map c.args.t1 offset_word ∙ long c
+words_long : (c : goal.Start) → length (map offset_word c.args.offsets) ≡ 64
+words_long c = length-map c.args.offsets offset_word ∙ long c
 
 pub loop-k-init : goal.loop-k-init
-loop-k-init c = laid_none c.args.out.now 65 (map offset_word c.args.t1) (omega (arith, words_long (goal.at.loop-k-init c).Start, c.requires))
+loop-k-init c = laid_none c.args.out.now 65 (map offset_word c.args.offsets) (omega (arith, words_long (goal.at.loop-k-init c).Start, c.requires))
 
 pub loop-k-preserved : goal.loop-k-preserved
 loop-k-preserved c = let p = c in
     let s = p in
     laid_next 0 p.loop-k.invariant (omega (arith, words_long (goal.at.loop-k-preserved c).Start))
     (c.word_of.ensures
-    ∙ ap offset_word (to_z-of_z {w = w32} {z = get_or s.args.t1 p.loop-k.k (pos 0)} (record { sfits = c.offset-1.given }))
-    ∙ sym (get_or-map offset_word s.args.t1 p.loop-k.k (pos 0)))
+    ∙ ap offset_word (to_z-of_z {w = w32} {z = get_or s.args.offsets p.loop-k.k (pos 0)} (search rules))
+    ∙ sym (get_or-map offset_word s.args.offsets p.loop-k.k (pos 0)))
 
 pub returns : goal.returns
 returns c = (long (goal.at.returns c).Start, laid_all c.loop-k.invariant (omega (arith, words_long (goal.at.returns c).Start)))

@@ -4,7 +4,6 @@ use mathlib.Core.List.{List, [], ◌∷◌, ◌++◌, map}
 use Prim.Native.Nat.{ℕ, ◌%◌}
 use native.Mathlib.Omega.{arith}
 use lib.ListN.{replicate, length-map}
-use borrow.Author.Rules.{rules}
 use Rattle.leap.specs.declared.Table.{Table}
 use Rattle.words.specs.Words.{offset_word, table_words}
 use Rattle.words.proofs.Laid.{table_laid, length_laid}

@@ -1,6 +1,5 @@
 -- Count, months, offsets and the number of the month, each from its words.
 use mathlib.Core.Path.{refl, ◌∙◌}
-use borrow.Author.Rules.{rules}
 use Rattle.words.specs.Words.{table_from}
 use Rattle.words.proofs.Words.{same_table}
 use Rattle.words.proofs.table_of.Goals as goal
