@@ -1,7 +1,7 @@
 -- Patterns: byte by byte, from the front, and at a place.
 -- Assumes nothing.
 use mathlib.Core.Path.{◌≡◌, refl, sym, ap, ap₂, subst, ◌∙◌}
-use mathlib.Core.Bool.{Bool, true, false, not, ◌&&◌}
+use mathlib.Core.Bool.{Bool, true, false, ◌&&◌}
 use mathlib.Core.Logic.{◌⊎◌, inl, inr, ⊎_elim}
 use mathlib.Core.List.{List, [], ◌∷◌, ◌++◌}
 use Prim.Native.Nat.{ℕ, zero, suc, ◌+◌, ◌≤◌, ◌<◌}
@@ -12,7 +12,7 @@ use borrow.Author.Tests.{eqb-true, leb-true}
 use lib.Dec.{eqb, leb}
 use lib.ListN.{length, take, drop, get_or, drop_of_length-le}
 use lib.Seq.{drop-cons, take-length}
-use Rattle.laws.proofs.Branches.{and_no, holds}
+use Rattle.laws.proofs.Branches.{and_no}
 use Rattle.laws.proofs.Cases.{both, and_l, and_r, join, one_of}
 use Rattle.digits.specs.Decimals.{digit_value, all_digits}
 use Rattle.pictures.specs.Parts.{Digits, Numbers, Fills}
@@ -124,9 +124,9 @@ pub not_long : (cs s t : List ℕ) (n : ℕ) → right_length n (length s) ≡ f
 not_long cs s t n e = record { has = and_no _ e; full = λ h. let z : false ≡ true = sym e ∙ and_l (right_length n (length s)) _ h in cc }
 
 -- a text that fills a pattern: it has the picture, and the pattern's bytes are then the text in full
-module _ (cs : List ℕ) (n : ℕ) {s t : List ℕ} {r : Bool} (f : Fills cs n s t r) (e : not r ≡ false) where
+module _ (cs : List ℕ) (n : ℕ) {s t : List ℕ} {r : Bool} (f : Fills cs n s t r) (e : r ≡ true) where
   pub has_it : has_picture cs n s ≡ true
-  has_it = holds f.has e
+  has_it = sym f.has ∙ e
 
   pub is_full : t ≡ in_full cs s
   is_full = f.full has_it

@@ -123,6 +123,7 @@ all_zeros (suc w) n e =
     ap₂ ◌∷◌ digit (all_zeros w n (omega arith))
   where
     at_least : (q p : ℕ) → 1 ≤ p → q ≤ q * p
+    at_least q zero h = elim h [ ]
     at_least q (suc p) h = omega arith
 
 pub filled_up : (w k n : ℕ) → k ≤ w → n % 10 ^ (w - k) ≡ 0 → take k (digits_of w n) ++ drop k (replicate w 48) ≡ digits_of w n

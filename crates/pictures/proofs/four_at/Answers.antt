@@ -1,5 +1,4 @@
 use native.Mathlib.Omega.{arith}
-use borrow.Author.Rules.{rules}
 use Rattle.pictures.proofs.Spelling.{digits_front, digits_end, number_join}
 use Rattle.pictures.proofs.four_at.Goals as goal
 
@@ -10,4 +9,4 @@ pub two_at-requires-2 : goal.two_at-requires-2
 two_at-requires-2 c = digits_end 2 2 c.requires
 
 pub returns : goal.returns
-returns c = let a = c.args in let e = number_join a.t.now a.i 2 2 in (omega arith, omega arith)
+returns c = let e = number_join c.args.t.now c.args.i 2 2 in (omega arith, omega arith)

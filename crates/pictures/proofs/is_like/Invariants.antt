@@ -1,11 +1,8 @@
-use mathlib.Core.Path.{◌≡◌, refl, sym, ◌∙◌}
+use mathlib.Core.Path.{◌≡◌}
 use mathlib.Core.Bool.{◌&&◌}
 use Prim.Native.Nat.{◌-◌, ◌≤◌}
-use native.Mathlib.Omega.{arith}
-use borrow.Author.Rules.{rules}
 use lib.ListN.{length, drop}
 use Rattle.pictures.specs.Reading.{like}
-use Rattle.pictures.proofs.Patterns.{like_step, like_end}
 use Rattle.pictures.proofs.is_like.Given as goal
 
 -- what was passed, and what is left, are the whole
