@@ -1,4 +1,4 @@
-// The C interface of include/mundreff.h: each call answers the refusal's number, 0 on success, and writes every output on every call.
+// The calls of include/mundreff.h: each answers the refusal's number, 0 on success, and writes every output on every call. `mundreff_c` exports them.
 // A call takes the table out of its words, asks the crate whose work it is, and stores what `Answers` of specs/ says of the answer.
 #![tactic(auto)]
 
