@@ -1,6 +1,6 @@
 -- Words: the next one of a line, one by its first byte, and what each gives.
 -- Assumes nothing.
-use mathlib.Core.Path.{◌≡◌, refl, ap, subst}
+use mathlib.Core.Path.{◌≡◌, refl, ap}
 use mathlib.Core.Bool.{Bool, true, false, cond}
 use mathlib.Core.List.{List, [], ◌∷◌}
 use Prim.Native.Nat.{ℕ, zero, suc, ◌+◌, ◌-◌, ◌*◌, ◌^◌, ◌≤◌, ◌<◌}
@@ -74,9 +74,6 @@ natural_within most (b ∷ s) = go (eqb b 45)
     go : (t : Bool) → Within most (cond t (decimal_of 0 s) (decimal_of most (b ∷ s)))
     go true = within_more 0 most (decimal_of 0 s) (omega arith) (decimal_within 0 s)
     go false = decimal_within most (b ∷ s)
-
-pub within_is : {m n : ℕ} (a : Number) → a ≡ Is n → Within m a → n ≤ m
-within_is {m} a e h = subst (Within m) e h
 
 abbrev pub Fitting : Width → Integer → Type 0
 Fitting w (Whole z) = SFits w z

@@ -1,10 +1,7 @@
 -- What the digits passed give, and those to come, is the whole; sixteen digits fit.
 use native.Mathlib.Omega.{arith}
-use Prim.Native.Nat.{◌-◌, ◌≤◌, ◌<◌, ◌^◌}
-use mathlib.Core.Path.{◌≡◌, sym, ◌∙◌}
+use mathlib.Core.Path.{sym, ◌∙◌}
 use lib.Dec.{lit<}
-use lib.ListN.{drop}
-use Rattle.fields.specs.Words.{nibbled, pattern_of}
 use Rattle.fields.proofs.Words.{nibbled_more, nibbled_bad, nibbled_end, pattern_short, pattern_of_lem, below, more_digits}
 use Rattle.fields.proofs.bits_of.Goals as goal
 
@@ -26,14 +23,12 @@ hex_digit-d-requires c =
 
 pub returns-then-d-gt15 : goal.returns-then-d-gt15
 returns-then-d-gt15 c =
-    let l = c in
-    let w = l.args.word.now in
-    sym (nibbled_bad l.loop-i.n l.loop-i.i c.hex_digit-d.result w (omega arith) c.hex_digit-d.ensures.0 (omega arith)) ∙ l.loop-i.invariant.2
+    let w = c.args.word.now in
+    sym (nibbled_bad c.loop-i.n c.loop-i.i c.hex_digit-d.result w (omega arith) c.hex_digit-d.ensures.0 (omega arith)) ∙ c.loop-i.invariant.2
 
 pub overflow_mul-n : goal.overflow_mul-n
 overflow_mul-n c =
-    let l = c in
-    let b = below l.loop-i.n l.loop-i.i l.loop-i.invariant.1 (omega arith) in omega arith
+    let b = below c.loop-i.n c.loop-i.i c.loop-i.invariant.1 (omega arith) in omega arith
 
 pub overflow_cast-n : goal.overflow_cast-n
 overflow_cast-n c =
@@ -41,8 +36,7 @@ overflow_cast-n c =
 
 pub overflow_add-n : goal.overflow_add-n
 overflow_add-n c =
-    let l = c in
-    let b = below l.loop-i.n l.loop-i.i l.loop-i.invariant.1 (omega arith) in omega arith
+    let b = below c.loop-i.n c.loop-i.i c.loop-i.invariant.1 (omega arith) in omega arith
 
 pub overflow_add-i : goal.overflow_add-i
 overflow_add-i c =
@@ -54,11 +48,10 @@ loop-i-smaller c =
 
 pub loop-i-preserved : goal.loop-i-preserved
 loop-i-preserved c =
-    let l = c in
-    let w = l.args.word.now in (
+    let w = c.args.word.now in (
       omega arith,
-      more_digits l.loop-i.n l.loop-i.i c.hex_digit-d.result l.loop-i.invariant.1 (omega arith),
-      sym (nibbled_more l.loop-i.n l.loop-i.i c.hex_digit-d.result w (omega arith) c.hex_digit-d.ensures.0 (omega arith)) ∙ l.loop-i.invariant.2,
+      more_digits c.loop-i.n c.loop-i.i c.hex_digit-d.result c.loop-i.invariant.1 (omega arith),
+      sym (nibbled_more c.loop-i.n c.loop-i.i c.hex_digit-d.result w (omega arith) c.hex_digit-d.ensures.0 (omega arith)) ∙ c.loop-i.invariant.2,
     )
 
 pub returns : goal.returns

@@ -1,10 +1,7 @@
-use native.Mathlib.Omega.{arith}
 use Prim.Native.Nat.{◌-◌, ◌≤◌, ◌<◌, ◌^◌}
-use mathlib.Core.Path.{◌≡◌, sym, ◌∙◌}
-use lib.Dec.{lit<}
+use mathlib.Core.Path.{◌≡◌}
 use lib.ListN.{drop}
 use Rattle.fields.specs.Words.{nibbled, pattern_of}
-use Rattle.fields.proofs.Words.{nibbled_more, nibbled_bad, nibbled_end, pattern_short, pattern_of_lem, below, more_digits}
 use Rattle.fields.proofs.bits_of.Given as goal
 
 abbrev pub invariant-loop-i : goal.invariant-loop-i

@@ -1,6 +1,5 @@
 -- A pattern above infinity is a NaN.
 use Rattle.fields.proofs.Doubles.{nan_pattern, other_pattern}
-use borrow.Author.Rules.{rules}
 use Rattle.fields.proofs.double.Goals as goal
 
 pub returns-then-bits-gt9218868437227405312 : goal.returns-then-bits-gt9218868437227405312

@@ -1,5 +1,4 @@
 -- Both tests, one after the other.
-use borrow.Author.Rules.{rules}
 use Rattle.fields.proofs.ended.Goals as goal
 
 pub returns-then-c : goal.returns-then-c

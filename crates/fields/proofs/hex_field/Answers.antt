@@ -1,7 +1,6 @@
 -- The field is what its word gives, at the word's end, and the buffer what that word stores.
 use mathlib.Core.Path.{ap, ◌∙◌}
 use lib.ListN.{length}
-use borrow.Author.Rules.{rules}
 use Rattle.lines.specs.Pairs.{hex_into}
 use Rattle.fields.specs.Words.{hex_word}
 use Rattle.fields.specs.Fields.{field_of, hex_at}
@@ -12,9 +11,8 @@ pub returns : goal.returns
 unfolding hex_at
 returns c =
     let h = c.hex_word-count in
-    let k = c in
-    let a = k.args in
-    let n = k.next_word-w in (
+    let a = c.args in
+    let n = c.next_word-w in (
       field_is (hex_word (length a.out.now)) field_of a.line.now a.c c.filled.ensures h.ensures.0 n.ensures.0 n.ensures.1,
       h.ensures.1 ∙ ap (hex_into a.out.now) n.ensures.0,
     )

@@ -2,7 +2,6 @@
 use mathlib.Core.Path.{◌∙◌}
 use lib.ListN.{length}
 use Rattle.fields.proofs.Words.{hex_empty, hex_dash, hex_dashed, word_plain}
-use borrow.Author.Rules.{rules}
 use Rattle.fields.proofs.hex_word.Goals as goal
 
 pub returns-then-word-eq0 : goal.returns-then-word-eq0
@@ -20,6 +19,5 @@ returns-then-word-eq45 c =
 pub returns : goal.returns
 returns c =
     let h = c.hex in
-    let e = c in
-    let a = e.args in
-    (h.ensures.0 ∙ word_plain (length a.out.now) a.word.now e.if-word-eq0.false e.if-word-eq45.false, h.ensures.1)
+    let a = c.args in
+    (h.ensures.0 ∙ word_plain (length a.out.now) a.word.now c.if-word-eq0.false c.if-word-eq45.false, h.ensures.1)

@@ -6,7 +6,6 @@ use mir.Val.{SFits}
 use mir.Facts.{to_z-of_z, sfits_widen}
 use Rattle.fields.specs.Fields.{integer_at}
 use Rattle.fields.proofs.Fields.{field_fits}
-use borrow.Author.Rules.{rules}
 use Rattle.fields.proofs.i32_field.Goals as goal
 use Rattle.fields.proofs.i32_field.Goals.{After-struct_told-1}
 

@@ -1,5 +1,4 @@
 -- The field is what its word gives, at the word's end.
-use borrow.Author.Rules.{rules}
 use Rattle.fields.specs.Words.{integer_of}
 use Rattle.fields.specs.Fields.{signed_of, integer_at}
 use Rattle.fields.proofs.Fields.{field_is}

@@ -4,7 +4,6 @@ use Prim.Native.Nat.{◌-◌, ◌<◌, ◌^◌}
 use mir.Syntax.{w64}
 use mir.Facts.{to_z-of_z, to_z_pos}
 use Rattle.fields.proofs.Words.{minus, neg_is, low_fits}
-use borrow.Author.Rules.{rules}
 use Rattle.fields.proofs.negated.Goals as goal
 
 pub returns-then-n-eq0 : goal.returns-then-n-eq0

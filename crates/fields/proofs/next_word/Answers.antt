@@ -1,7 +1,6 @@
 -- Past the end, no blank, or up to the next blank.
 use native.Mathlib.Omega.{arith}
 use Rattle.fields.proofs.Words.{word_none, word_past, word_some}
-use borrow.Author.Rules.{rules}
 use Rattle.fields.proofs.next_word.Goals as goal
 
 pub returns-then-line-at : goal.returns-then-line-at
@@ -14,4 +13,4 @@ returns-then-line-at-ne32 c =
 
 pub returns : goal.returns
 returns c =
-    let a = c.args in let w = word_some a.line.now a.at c.if-line-at-ne32.false c.until-end.ensures.0 in (w.0, w.1, c.until-end.ensures.1.1, c.until-end.ensures.1.0 (omega arith))
+    let a = c.args in let w = word_some a.line.now a.at c.if-line-at-ne32.false c.until-end.ensures.value in (w.0, w.1, c.until-end.ensures.upper_bound.1, c.until-end.ensures.upper_bound.0 (omega arith))

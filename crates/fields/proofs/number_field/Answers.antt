@@ -1,5 +1,4 @@
 -- The field is what its word gives, at the word's end.
-use borrow.Author.Rules.{rules}
 use Rattle.fields.specs.Words.{natural_of}
 use Rattle.fields.specs.Fields.{field_of, natural_at}
 use Rattle.fields.proofs.Fields.{field_is}

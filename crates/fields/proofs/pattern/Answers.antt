@@ -1,6 +1,5 @@
 -- A NaN differs from itself.
 use Rattle.fields.proofs.Doubles.{nan_bits_lem, no_nan}
-use borrow.Author.Rules.{rules}
 use Rattle.fields.proofs.pattern.Goals as goal
 
 pub returns-then-x : goal.returns-then-x

@@ -2,7 +2,6 @@
 use mathlib.Core.Path.{ap}
 use Prim.Native.Nat.{◌≤◌}
 use native.Mathlib.Omega.{arith}
-use borrow.Author.Rules.{rules}
 use Rattle.fields.proofs.Fields.{natural_most}
 use Rattle.fields.proofs.u32_field.Goals as goal
 use Rattle.fields.proofs.u32_field.Goals.{After-number_field-f}

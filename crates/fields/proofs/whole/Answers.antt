@@ -8,7 +8,6 @@ use Rattle.fields.specs.Words.{negative, positive, integer_of}
 use Rattle.fields.specs.declared.Integer.TheVariants.{NotWhole}
 use Rattle.fields.proofs.Words.{dash_empty, dash_minus, dash_plain}
 use Rattle.fields.proofs.Words.{within_more}
-use borrow.Author.Rules.{rules}
 use Rattle.fields.proofs.whole.Goals as goal
 
 pub returns-then-word-eq0 : goal.returns-then-word-eq0
@@ -17,8 +16,7 @@ returns-then-word-eq0 c = dash_empty NotWhole _ _ _ c.if-word-eq0.true
 
 pub negative-requires : goal.negative-requires
 negative-requires c =
-    let a = c in
-    within_more (a.args.most + 1) (2 ^ 63) c.decimal.result (omega arith) (subst (Within (a.args.most + 1)) (sym c.decimal.ensures) (decimal_within (a.args.most + 1) _))
+    within_more (c.args.most + 1) (2 ^ 63) c.decimal.result (omega arith) (subst (Within (c.args.most + 1)) (sym c.decimal.ensures) (decimal_within (c.args.most + 1) _))
 
 pub returns-then-word-eq45 : goal.returns-then-word-eq45
 unfolding integer_of
@@ -28,8 +26,7 @@ returns-then-word-eq45 c =
 
 pub positive-requires : goal.positive-requires
 positive-requires c =
-    let a = c in
-    within_more a.args.most (2 ^ 63 - 1) c.decimal-2.result (omega arith) (subst (Within a.args.most) (sym c.decimal-2.ensures) (decimal_within a.args.most _))
+    within_more c.args.most (2 ^ 63 - 1) c.decimal-2.result (omega arith) (subst (Within c.args.most) (sym c.decimal-2.ensures) (decimal_within c.args.most _))
 
 pub returns : goal.returns
 unfolding integer_of
