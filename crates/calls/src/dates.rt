@@ -8,7 +8,8 @@ use leap::Table;
 // A double's bits, as hex digits.
 fn bits(x: f64) -> [u8; 16] {
     let mut text = [0u8; 16];
-    io::hex(fields::pattern(x), 16, &mut text);
+    let bytes = fields::pattern(x).to_be_bytes();
+    lines::append_hex(&mut text, 0, &bytes);
     text
 }
 

@@ -3,7 +3,7 @@ use crate::files::answer;
 use crate::output::{complain, put};
 use crate::tally::{Tally, counted, nothing};
 use leap::Table;
-use libc::STDIN_FILENO;
+use std::io::Read;
 
 // The state between two lines: whether to go on, the bytes held of a line, those of answers, the lines so far and the table.
 #[derive(Clone, Copy)]
@@ -16,29 +16,29 @@ pub struct State {
 }
 
 // Writes the answers out. Where that fails there is nothing more to do.
-fn flush(out: &[u8], state: State) -> State {
+fn flush(rt: &HostRuntime, out: &[u8], state: State) -> State {
     let mut s = state;
-    s.open = put(out, s.used);
+    s.open = put(rt, out, s.used);
     s.used = 0;
     s
 }
 
 // Answers are written out first where there is no room for one more, which has up to 8 KiB.
-fn room(out: &[u8], s: State) -> State {
+fn room(rt: &HostRuntime, out: &[u8], s: State) -> State {
     if s.used <= 57344 {
         return s;
     }
-    flush(out, s)
+    flush(rt, out, s)
 }
 
 // A line that fills its buffer is answered as it stands there: it is longer than a line may be.
-fn answer_line(line: &[u8], state: State, out: &mut [u8]) -> State {
+fn answer_line(rt: &HostRuntime, line: &[u8], state: State, out: &mut [u8]) -> State {
     let n = lines::front(line, state.len);
-    let s = room(out, state);
+    let s = room(rt, out, state);
     if !s.open {
         return s;
     }
-    let a = answer(&line[..n], s.table, out, s.used);
+    let a = answer(rt, &line[..n], s.table, out, s.used);
     let said = a.said;
     let tally = counted(s.tally, said.good);
     let table = a.table;
@@ -52,8 +52,8 @@ fn answer_line(line: &[u8], state: State, out: &mut [u8]) -> State {
 }
 
 // Answers every line that ends in the chunk, and writes the answers out.
-fn answer_chunk(chunk: &[u8], line: &mut [u8], state: State) -> State {
-    let mut out = io::large_buffer();
+fn answer_chunk(rt: &HostRuntime, chunk: &[u8], line: &mut [u8], state: State) -> State {
+    let mut out = [0u8; 65536];
     let mut s = state;
     let mut at = 0;
     while at < chunk.len() {
@@ -61,61 +61,60 @@ fn answer_chunk(chunk: &[u8], line: &mut [u8], state: State) -> State {
         at = t.at;
         s.len = t.len;
         if t.ended {
-            s = answer_line(line, s, &mut out);
+            s = answer_line(rt, line, s, &mut out);
             if !s.open {
                 return s;
             }
         }
     }
-    flush(&out, s)
+    flush(rt, &out, s)
 }
 
-fn summarise(t: Tally) {
-    let mut out = io::buffer();
+fn summarise(rt: &HostRuntime, t: Tally) {
+    let mut out = [0u8; 4096];
     let first = t.first;
     let n = wording::summary(t.lines, t.bad, &first, &mut out, 0);
-    put(&out, n);
+    put(rt, &out, n);
 }
 
 // Nothing more is read; the summary comes last, unless the output is lost.
-fn closed(state: State) -> State {
+fn closed(rt: &HostRuntime, state: State) -> State {
     let mut s = state;
     if s.open {
-        summarise(s.tally);
+        summarise(rt, s.tally);
     }
     s.open = false;
     s
 }
 
 // The last line may lack its end.
-fn end_input(line: &mut [u8], s: State) -> State {
+fn end_input(rt: &HostRuntime, line: &mut [u8], s: State) -> State {
     if s.len == 0 {
-        return closed(s);
+        return closed(rt, s);
     }
-    closed(answer_chunk(b"\n", line, s))
+    closed(rt, answer_chunk(rt, b"\n", line, s))
 }
 
 // One read: what came is answered before the next read. A read that fails is told, and is the end of the input.
-fn one_turn(line: &mut [u8], state: State) -> State {
-    let mut chunk = io::large_buffer();
-    let got = libc::read(STDIN_FILENO, &mut chunk);
-    if got < 0 {
-        complain(b"desk: the input cannot be read\n");
+fn one_turn(rt: &HostRuntime, line: &mut [u8], state: State) -> State {
+    let mut chunk = [0u8; 65536];
+    match rt.stdin().read(&mut chunk) {
+        Ok(0) => end_input(rt, line, state),
+        Ok(n) => answer_chunk(rt, &chunk[..n], line, state),
+        Err(_) => {
+            complain(rt, "desk: the input cannot be read");
+            end_input(rt, line, state)
+        }
     }
-    if got <= 0 {
-        return end_input(line, state);
-    }
-    let n = io::count(got, &chunk);
-    answer_chunk(&chunk[..n], line, state)
 }
 
 // Reads and answers to the end of the input. A proved loop has to end, and nothing says that the input does: the turns are
 // counted down from a number that no run uses up.
-fn run(line: &mut [u8], state: State) {
+fn run(rt: &HostRuntime, line: &mut [u8], state: State) {
     let mut s = state;
     let mut turns = u64::MAX;
     while turns > 0 {
-        s = one_turn(line, s);
+        s = one_turn(rt, line, s);
         if !s.open {
             return;
         }
@@ -124,7 +123,7 @@ fn run(line: &mut [u8], state: State) {
 }
 
 // A line has up to 1,024 bytes: one more shows that it has too many.
-pub(crate) fn pump() {
+pub(crate) fn pump(rt: &HostRuntime) {
     let mut line = [0u8; 1025];
     let start = State {
         open: true,
@@ -133,5 +132,5 @@ pub(crate) fn pump() {
         tally: nothing(),
         table: leap::bulletin_c(),
     };
-    run(&mut line, start);
+    run(rt, &mut line, start);
 }

@@ -9,13 +9,13 @@ mod tally;
 mod words;
 
 use input::pump;
-use words::answer_words;
+use words::{answer_words, arg_count};
 
-fn main() {
-    let count = os::arg_count();
+fn main(rt: HostRuntime) {
+    let count = arg_count(&rt);
     if 1 < count {
-        answer_words(count);
+        answer_words(&rt, count);
     } else {
-        pump();
+        pump(&rt);
     }
 }

@@ -1,16 +1,14 @@
 // What is written, and the complaints.
-use libc::{STDERR_FILENO, STDOUT_FILENO};
-
-pub(crate) fn complain(text: &[u8]) {
-    io::write_all(STDERR_FILENO, text);
+pub(crate) fn complain(rt: &HostRuntime, text: &str) {
+    let _ = rt.eprintln(text);
 }
 
 // Writes the first n bytes out, and gives whether that was possible.
-pub(crate) fn put(out: &[u8], n: usize) -> bool {
+pub(crate) fn put(rt: &HostRuntime, out: &[u8], n: usize) -> bool {
     let e = lines::front(out, n);
-    if io::write_all(STDOUT_FILENO, &out[..e]) {
+    if rt.write_all(&out[..e]).is_ok() {
         return true;
     }
-    complain(b"desk: the output cannot be written\n");
+    complain(rt, "desk: the output cannot be written");
     false
 }

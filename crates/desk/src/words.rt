@@ -1,14 +1,36 @@
 // The words after the program's name, which are one line.
 use crate::files::answer;
 use crate::output::put;
+use std::env::{Env, FillError};
+
+// Whether there is a word i, where the program's name is word 0.
+fn is_there(rt: &HostRuntime, i: usize) -> bool {
+    let mut buf = [0u8; 1];
+    match rt.arg(i, &mut buf) {
+        Err(FillError::NotPresent) => false,
+        _ => true,
+    }
+}
+
+// How many words there are, the program's name among them.
+pub(crate) fn arg_count(rt: &HostRuntime) -> usize {
+    let mut i = 0;
+    while i < usize::MAX {
+        if !is_there(rt, i) {
+            return i;
+        }
+        i += 1;
+    }
+    i
+}
 
 // The bytes of word i; of one that is longer than the buffer its first ones are there.
-fn word(i: usize, buf: &mut [u8]) -> usize {
-    let n = os::arg(i, buf);
-    if os::errno() == libc::ENAMETOOLONG {
-        return buf.len();
+fn word(rt: &HostRuntime, i: usize, buf: &mut [u8]) -> usize {
+    match rt.arg(i, buf) {
+        Ok(n) => n,
+        Err(FillError::TooLong) => buf.len(),
+        Err(FillError::NotPresent) => 0,
     }
-    n
 }
 
 fn blank(i: usize, line: &mut [u8], held: usize) -> usize {
@@ -18,31 +40,31 @@ fn blank(i: usize, line: &mut [u8], held: usize) -> usize {
     lines::hold(line, held, b" ")
 }
 
-fn join_word(i: usize, line: &mut [u8], held: usize) -> usize {
+fn join_word(rt: &HostRuntime, i: usize, line: &mut [u8], held: usize) -> usize {
     let mut buf = [0u8; 1025];
-    let k = word(i, &mut buf);
+    let k = word(rt, i, &mut buf);
     let n = lines::front(&buf, k);
     let next = blank(i, line, held);
     lines::hold(line, next, &buf[..n])
 }
 
 // The words below `count`.
-fn join(line: &mut [u8], count: usize) -> usize {
+fn join(rt: &HostRuntime, line: &mut [u8], count: usize) -> usize {
     let mut held = 0;
     let mut i = 1;
     while i < count {
-        held = join_word(i, line, held);
+        held = join_word(rt, i, line, held);
         i += 1;
     }
     held
 }
 
-pub(crate) fn answer_words(count: usize) {
+pub(crate) fn answer_words(rt: &HostRuntime, count: usize) {
     let mut line = [0u8; 1025];
-    let mut out = io::large_buffer();
-    let held = join(&mut line, count);
+    let mut out = [0u8; 65536];
+    let held = join(rt, &mut line, count);
     let n = lines::front(&line, held);
-    let a = answer(&line[..n], leap::bulletin_c(), &mut out, 0);
+    let a = answer(rt, &line[..n], leap::bulletin_c(), &mut out, 0);
     let said = a.said;
-    put(&out, said.at);
+    put(rt, &out, said.at);
 }

@@ -3,7 +3,7 @@
 #![tactic(auto)]
 
 use answer::Written;
-use libc::{STDERR_FILENO, STDIN_FILENO, STDOUT_FILENO};
+use std::io::Read;
 
 #[derive(Clone, Copy)]
 pub enum Got {
@@ -11,21 +11,21 @@ pub enum Got {
     End,
 }
 
-fn complain(text: &[u8]) {
-    io::write_all(STDERR_FILENO, text);
+fn complain(rt: &HostRuntime, text: &str) {
+    let _ = rt.eprintln(text);
 }
 
 // Reads one byte. A read that fails is told, and is the end of the input.
-fn read_byte() -> Got {
+fn read_byte(rt: &HostRuntime) -> Got {
     let mut one = [0u8; 1];
-    let got = libc::read(STDIN_FILENO, &mut one);
-    if got == 1 {
-        return Got::Byte(digits::byte_at(&one, 0));
+    match rt.stdin().read(&mut one) {
+        Ok(0) => Got::End,
+        Ok(_) => Got::Byte(digits::byte_at(&one, 0)),
+        Err(_) => {
+            complain(rt, "ticks: the input cannot be read");
+            Got::End
+        }
     }
-    if got < 0 {
-        complain(b"ticks: the input cannot be read\n");
-    }
-    Got::End
 }
 
 // One more line end where the byte is one.
@@ -40,14 +40,14 @@ fn count_ends(ends: u32, b: u8) -> u32 {
 }
 
 // Reads byte by byte up to the third line end, the end of the input or the end of the buffer.
-fn fill(buf: &mut [u8]) -> usize {
+fn fill(rt: &HostRuntime, buf: &mut [u8]) -> usize {
     let mut n = 0;
     let mut ends = 0;
     while n < buf.len() {
         if ends == 3 {
             return n;
         }
-        let g = read_byte();
+        let g = read_byte(rt);
         let Got::Byte(b) = g else {
             return n;
         };
@@ -58,20 +58,20 @@ fn fill(buf: &mut [u8]) -> usize {
     n
 }
 
-fn print(out: &[u8], w: Written) {
+fn print(rt: &HostRuntime, out: &[u8], w: Written) {
     if let Written::Wrote(n) = w {
         let e = lines::front(out, n);
-        if !io::write_all(STDOUT_FILENO, &out[..e]) {
-            complain(b"ticks: the output cannot be written\n");
+        if rt.write_all(&out[..e]).is_err() {
+            complain(rt, "ticks: the output cannot be written");
         }
     }
 }
 
-fn main() {
+fn main(rt: HostRuntime) {
     let mut buf = [0u8; 3075];
     let mut out = [0u8; listing::MOST];
-    let n = fill(&mut buf);
+    let n = fill(&rt, &mut buf);
     let k = lines::front(&buf, n);
     let w = listing::list(&buf[..k], &mut out);
-    print(&out, w);
+    print(&rt, &out, w);
 }
