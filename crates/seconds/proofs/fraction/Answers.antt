@@ -10,5 +10,4 @@ returns-then-given-gt6 c = fraction_long _ (omega arith)
 
 pub returns : goal.returns
 returns c =
-    let a = c in
-    c.decimal.ensures ∙ fraction_short _ (omega arith) a.append.ensures
+    c.decimal.ensures ∙ fraction_short _ (omega arith) c.append.ensures

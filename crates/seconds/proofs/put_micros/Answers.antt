@@ -8,7 +8,4 @@ use Rattle.seconds.proofs.put_micros.Goals as goal
 pub returns : goal.returns
 unfolding micros_text
 returns c =
-    let p = c in
-    let d = p in
-    let u = d in
-    then u.put_unsigned-a.ensures (then d.put-b.ensures (puts_as (digits_from 3 u.digits-nine.ensures) p.put.ensures))
+    then c.put_unsigned-a.ensures (then c.put-b.ensures (puts_as (digits_from 3 c.digits-nine.ensures) c.put.ensures))

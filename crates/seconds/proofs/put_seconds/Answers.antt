@@ -10,8 +10,5 @@ use Rattle.seconds.proofs.put_seconds.Goals as goal
 pub returns : goal.returns
 unfolding seconds_text
 returns c =
-    let p = c in
-    let g = p in
-    let m = g in
-    let z = to_z-of_z m.ranges.z in
-    then (puts_as (ap sign_text z) g.put_sign-a.ensures) (puts_as (ap micros_text (m.magnitude-n.ensures ∙ ap nat_abs z)) p.put_micros.ensures)
+    let z = to_z-of_z c.ranges.z in
+    then (puts_as (ap sign_text z) c.put_sign-a.ensures) (puts_as (ap micros_text (c.magnitude-n.ensures ∙ ap nat_abs z)) c.put_micros.ensures)

@@ -7,14 +7,8 @@ use Rattle.seconds.proofs.put_sign.Goals as goal
 
 pub returns-then-z-lt0 : goal.returns-then-z-lt0
 returns-then-z-lt0 c =
-    let p = c in
-    let t = p in
-    let s = t in
-    puts_as (sign_low s.args.z (sign_is s.ranges.z t.if-z-lt0.true)) p.put.ensures
+    puts_as (sign_low c.args.z (sign_is c.ranges.z c.if-z-lt0.true)) c.put.ensures
 
 pub returns : goal.returns
 returns c =
-    let p = c in
-    let t = p in
-    let s = t in
-    puts_as (sign_high s.args.z (sign_is s.ranges.z t.if-z-lt0.false)) p.put-2.ensures
+    puts_as (sign_high c.args.z (sign_is c.ranges.z c.if-z-lt0.false)) c.put-2.ensures
