@@ -221,7 +221,7 @@ pub reads_back : (t : Table) → Good t → GivesTable (kernel_of t) t
 reads_back t g =
     let a = accepted_to t g.is_accepted in
     let e = table_is g in
-    let r = kernel_read (kernel_of t) (entries t) (Written.kernel-is a) (omega (arith, sizes a)) in
+    let r = kernel_read (kernel_of t) (entries t) (Written.kernel_is a) (omega (arith, sizes a)) in
     judged_found (table_of (entries t)) r (ap accepted e ∙ g.is_accepted) ∙ ap (λ u. (0, 0, u)) e
 
 pub writes : (t : Table) (buffer : List ℕ) → WritesKernel t buffer

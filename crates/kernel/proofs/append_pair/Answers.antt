@@ -1,6 +1,5 @@
 -- Six texts, one behind another.
 use mathlib.Core.Path.{ap}
-use borrow.Author.Rules.{rules}
 use mir.Syntax.{w64}
 use mir.Facts.{to_z-of_z, sfits_widen}
 use Rattle.laws.proofs.Machine.{widened}
@@ -14,19 +13,11 @@ overflow_cast-offset c = let f = c.ranges.offset in rw (to_z-of_z f) (sfits_wide
 
 pub returns : goal.returns
 returns c =
-    let last = c in
-    let name = last in
-    let dash = name in
-    let year = dash in
-    let comma = year in
-    let number = comma in
-    let m = number in
-    let s = m in
-    let a = s.args in
-    pair_placed a.out.now a.at a.month a.offset s.requires.0 s.requires.1
-    (same_text a.out.now a.at number.append_signed-a.result (ap signed_text (widened w64 tt s.ranges.offset)) number.append_signed-a.ensures)
-    comma.append-b.ensures
-    (same_text _ _ year.append-c.result (digits_from 5 m.digits-year.ensures) year.append-c.ensures)
-    dash.append-d.ensures
-    (same_text _ _ name.append-e.result m.month_name-name.ensures name.append-e.ensures)
-    last.append.ensures
+    let a = c.args in
+    pair_placed a.out.now a.at a.month a.offset c.requires.0 c.requires.1
+    (same_text a.out.now a.at c.append_signed-a.result (ap signed_text (widened w64 tt c.ranges.offset)) c.append_signed-a.ensures)
+    c.append-b.ensures
+    (same_text _ _ c.append-c.result (digits_from 5 c.digits-year.ensures) c.append-c.ensures)
+    c.append-d.ensures
+    (same_text _ _ c.append-e.result c.month_name-name.ensures c.append-e.ensures)
+    c.append.ensures

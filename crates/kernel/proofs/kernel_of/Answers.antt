@@ -1,33 +1,45 @@
 -- `kernel::kernel_of` meets its contract: what is stored, with what is still to come, is the kernel.
-use Prim.Native.Nat.{◌-◌}
-use mathlib.Core.Path.{refl, sym}
+use mathlib.Core.Path.{◌≡◌}
+use Prim.Native.Nat.{◌<◌}
 use native.Mathlib.Omega.{arith}
-use borrow.Author.Rules.{sfits_of}
+use lib.IntN.{ℤ}
+use lib.Signed.{mag}
+use mir.Syntax.{w32}
+use mir.Val.{to_z, of_z}
 use mir.Facts.{to_z-of_z}
-use Rattle.leap.specs.declared.Table.{Table}
+use borrow.Author.Rules.{sfits_of}
 use Rattle.leap.specs.Leap.{tabled}
-use Rattle.leap.proofs.Facts.{Accepted, accepted_to}
+use Rattle.leap.proofs.Facts.{accepted_to}
 use Rattle.leap.proofs.Offsets.{small}
-use Rattle.kernel.proofs.Storing.{Stored, front_placed, stored_first, long, line_long, line_fits, stored_more, stored_last}
+use Rattle.kernel.proofs.Storing.{front_placed, stored_first, line_fits, stored_more, stored_last}
 use Rattle.kernel.proofs.kernel_of.Goals as goal
-use Rattle.kernel.proofs.kernel_of.Goals.{Start}
 
--- the table
-module _ (c : goal.Start) where
-  abbrev t : Table
-  t = tabled c.args.count c.args.months.now c.args.offsets.now
+-- an offset is read from its bits as it was stored
+back : (z : ℤ) → mag z < 99 → to_z w32 (of_z w32 z) ≡ z
+back z h = to_z-of_z {w = w32} (sfits_of {w = w32} (omega arith))
 
-  right : Accepted t
-  right = accepted_to t c.requires
+pub append_pair-len-requires : goal.append_pair-len-requires
+append_pair-len-requires c =
+    let right = accepted_to (tabled c.args.count c.args.months.now c.args.offsets.now) c.requires in
+    let f = front_placed right c.append-len.ensures in
+    let s = small right 0 right.some_entry in
+    (rw (back _ s) s, omega (arith, f.end, f.size))
 
--- LOOK: ['count', 'months', 'offsets', 'bytes₀', 'len₀', 'k₀', 't8', 't9', 'bytes', 'len', 'k'] against ['count', 'months', 'offsets', 'initial.bytes', 'initial.len', 'initial.k', 'bytes', 'len', 'k']
--- LOOK: ['count', 'months', 'offsets', 'bytes₀', 'len₀', 'k₀', 't8', 't9', 'bytes', 'len', 'k'] against ['count', 'months', 'offsets', 'initial.bytes', 'initial.len', 'initial.k', 'bytes', 'len', 'k']
--- LOOK: arg 3: (λ c. let s = c.before.before.before.before.before in sym (front_placed (right s) c.before.before.append.ensures).size)
--- LOOK: arg 6: (λ c κs.     let p = c.before.before.before.before in     let s = p.before.before.before in     let f = front_placed (right s) p.append.ensures in     (rw (to_z-of_z (sfits_of c.append-pair-arg2.given
--- LOOK: arg 7: (λ c.     let q = c.before in     let p = q.before.before.before.before.before in     let s = p.before.before.before in     stored_first (right s) p.append.ensures (rw (to_z-of_z (sfits_of q.before.ap
--- LOOK: arg 8: (λ c. sym (long c.before.before.loop.invariant))
--- LOOK: arg 11: (λ c. let p = c.before.before in let l = p.before.before.before in sym (line_long l.before.loop.invariant l.loop-test.true p.append2.ensures))
--- LOOK: arg 16: (λ c κs.     let p = c.before.before.before.before in     let l = p.before.before.before in     let i = l.before.loop.invariant in     (rw (to_z-of_z (sfits_of c.append-pair-arg4.given)) (small i.righ
--- LOOK: arg 19: (λ c.     let q = c.before in     let p = q.before.before.before.before.before in     let l = p.before.before.before in     stored_more l.before.loop.invariant l.loop-test.true p.append2.ensures (rw (
--- LOOK: arg 20: (λ c. sym (long c.before.before.loop.invariant))
--- LOOK: arg 23: (λ c. let p = c.before in let l = p.before.before.before in stored_last l.before.loop.invariant l.loop-test.false p.append3.ensures)
+pub loop-k-init : goal.loop-k-init
+loop-k-init c =
+    let right = accepted_to (tabled c.args.count c.args.months.now c.args.offsets.now) c.requires in
+    stored_first right c.append-len.ensures (rw (back _ (small right 0 right.some_entry)) at c.append_pair-len.ensures)
+
+pub append_pair-len-requires-in-loop-k : goal.append_pair-len-requires-in-loop-k
+append_pair-len-requires-in-loop-k c =
+    let i = c.loop-k.invariant in
+    let s = small i.right c.loop-k.k c.loop-k-test.true in
+    (rw (back _ s) s, line_fits i c.loop-k-test.true c.append-len-in-loop-k.ensures)
+
+pub loop-k-preserved : goal.loop-k-preserved
+loop-k-preserved c =
+    let i = c.loop-k.invariant in
+    stored_more i c.loop-k-test.true c.append-len-in-loop-k.ensures (rw (back _ (small i.right c.loop-k.k c.loop-k-test.true)) at c.append_pair-len-in-loop-k.ensures)
+
+pub returns : goal.returns
+returns c = stored_last c.loop-k.invariant c.loop-k-test.false c.append-len-2.ensures

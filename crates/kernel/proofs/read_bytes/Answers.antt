@@ -1,12 +1,12 @@
 -- `kernel::read_bytes` meets its contract: what is left to read, after what is read, is the whole.
-use Prim.Native.Nat.{◌<◌, ◌-◌}
+use mir.Syntax.{w32}
+use Prim.Native.Nat.{◌<◌}
 use mathlib.Core.Path.{◌≡◌, refl, ◌∙◌}
 use mathlib.Core.List.{[]}
 use native.Mathlib.Omega.{arith}
 use lib.Dec.{ltb}
 use lib.ListN.{length, get_or}
 use mir.Facts.{to_z-of_z}
-use borrow.Author.Rules.{rules}
 use Rattle.automaton.specs.Step.{step}
 use Rattle.kernel.proofs.Going.{Going, only_blanks, on_end, on_quiet, on_rest, on_ours, on_pair, on_full, on_dead}
 use Rattle.kernel.proofs.read_bytes.Goals as goal
@@ -15,7 +15,7 @@ use Rattle.kernel.proofs.read_bytes.Goals.{After-step-mode}
 -- behind a step: the invariant, the test and the mode
 module _ (c : goal.After-step-mode) where
   inv : Going c.args.s.now c.loop-i.mode c.loop-i.count c.loop-i.months c.loop-i.offsets c.loop-i.i
-  inv = c.loop-i.inv
+  inv = c.loop-i.invariant
 
   turn : c.loop-i.i < length c.args.s.now
   turn = c.loop-i-test.true
@@ -30,36 +30,34 @@ pub loop-i-smaller-in-Rest : goal.loop-i-smaller-in-Rest
 loop-i-smaller-in-Rest c = omega (arith, c.pass_over-i.ensures.later, c.pass_over-i.ensures.inside)
 
 pub loop-i-preserved-in-Rest : goal.loop-i-preserved-in-Rest
-loop-i-preserved-in-Rest c = let n = c in on_rest (inv (goal.at.loop-i-preserved-in-Rest c).After-step-mode) (turn (goal.at.loop-i-preserved-in-Rest c).After-step-mode) (stepped (goal.at.loop-i-preserved-in-Rest c).After-step-mode) c.mode-1.given.1 c.pass_over-i.ensures
+loop-i-preserved-in-Rest c = on_rest (inv (goal.at.loop-i-preserved-in-Rest c).After-step-mode) (turn (goal.at.loop-i-preserved-in-Rest c).After-step-mode) (stepped (goal.at.loop-i-preserved-in-Rest c).After-step-mode) c.in-Rest.is c.pass_over-i.ensures
 
 pub loop-i-preserved-in-Inside : goal.loop-i-preserved-in-Inside
-loop-i-preserved-in-Inside c = let n = c in on_quiet (inv (goal.at.loop-i-preserved-in-Inside c).After-step-mode) (turn (goal.at.loop-i-preserved-in-Inside c).After-step-mode) (stepped (goal.at.loop-i-preserved-in-Inside c).After-step-mode) c.enum_told-1.given.1 refl
+loop-i-preserved-in-Inside c = on_quiet (inv (goal.at.loop-i-preserved-in-Inside c).After-step-mode) (turn (goal.at.loop-i-preserved-in-Inside c).After-step-mode) (stepped (goal.at.loop-i-preserved-in-Inside c).After-step-mode) c.in-Inside.is refl
 
 pub loop-i-preserved-in-Name : goal.loop-i-preserved-in-Name
-loop-i-preserved-in-Name c = let n = c in on_quiet (inv (goal.at.loop-i-preserved-in-Name c).After-step-mode) (turn (goal.at.loop-i-preserved-in-Name c).After-step-mode) (stepped (goal.at.loop-i-preserved-in-Name c).After-step-mode) c.enum_told-in-Name-1.given.1 refl
+loop-i-preserved-in-Name c = on_quiet (inv (goal.at.loop-i-preserved-in-Name c).After-step-mode) (turn (goal.at.loop-i-preserved-in-Name c).After-step-mode) (stepped (goal.at.loop-i-preserved-in-Name c).After-step-mode) c.in-Name.is refl
 
 pub loop-i-smaller-in-Ours : goal.loop-i-smaller-in-Ours
-loop-i-smaller-in-Ours c = omega (arith, c.past_blanks-i.ensures.1)
+loop-i-smaller-in-Ours c = omega (arith, c.past_blanks-i.ensures.upper_bound)
 
 pub loop-i-preserved-in-Ours : goal.loop-i-preserved-in-Ours
-loop-i-preserved-in-Ours c = let n = c in on_ours (inv (goal.at.loop-i-preserved-in-Ours c).After-step-mode) (turn (goal.at.loop-i-preserved-in-Ours c).After-step-mode) (stepped (goal.at.loop-i-preserved-in-Ours c).After-step-mode) c.enum_told-in-Ours-1.given.1 (only_blanks (omega arith) c.past_blanks-i.ensures.0)
+loop-i-preserved-in-Ours c = on_ours (inv (goal.at.loop-i-preserved-in-Ours c).After-step-mode) (turn (goal.at.loop-i-preserved-in-Ours c).After-step-mode) (stepped (goal.at.loop-i-preserved-in-Ours c).After-step-mode) c.in-Ours.is (only_blanks (omega arith) c.past_blanks-i.ensures.value)
 
 pub loop-i-preserved-in-Pair : goal.loop-i-preserved-in-Pair
-loop-i-preserved-in-Pair c = let n = c in on_quiet (inv (goal.at.loop-i-preserved-in-Pair c).After-step-mode) (turn (goal.at.loop-i-preserved-in-Pair c).After-step-mode) (stepped (goal.at.loop-i-preserved-in-Pair c).After-step-mode) c.enum_told-in-Pair-1.given.1 refl
+loop-i-preserved-in-Pair c = on_quiet (inv (goal.at.loop-i-preserved-in-Pair c).After-step-mode) (turn (goal.at.loop-i-preserved-in-Pair c).After-step-mode) (stepped (goal.at.loop-i-preserved-in-Pair c).After-step-mode) c.in-Pair.is refl
 
 pub loop-i-preserved-in-Date : goal.loop-i-preserved-in-Date
-loop-i-preserved-in-Date c = let n = c in on_quiet (inv (goal.at.loop-i-preserved-in-Date c).After-step-mode) (turn (goal.at.loop-i-preserved-in-Date c).After-step-mode) (stepped (goal.at.loop-i-preserved-in-Date c).After-step-mode) c.enum_told-in-Date-1.given.1 refl
+loop-i-preserved-in-Date c = on_quiet (inv (goal.at.loop-i-preserved-in-Date c).After-step-mode) (turn (goal.at.loop-i-preserved-in-Date c).After-step-mode) (stepped (goal.at.loop-i-preserved-in-Date c).After-step-mode) c.in-Date.is refl
 
 pub loop-i-preserved-then-count-lt64 : goal.loop-i-preserved-then-count-lt64
-loop-i-preserved-then-count-lt64 c = let d = c in
-    let n = d in
-    on_pair (inv (goal.at.loop-i-preserved-then-count-lt64 c).After-step-mode) (turn (goal.at.loop-i-preserved-then-count-lt64 c).After-step-mode) (stepped (goal.at.loop-i-preserved-then-count-lt64 c).After-step-mode) d.mode-in-Done-1.given.1 (to_z-of_z (record { sfits = c.with_sign.type_inv }) ∙ c.with_sign.ensures) c.if-count-lt64.true
+loop-i-preserved-then-count-lt64 c = on_pair (inv (goal.at.loop-i-preserved-then-count-lt64 c).After-step-mode) (turn (goal.at.loop-i-preserved-then-count-lt64 c).After-step-mode) (stepped (goal.at.loop-i-preserved-then-count-lt64 c).After-step-mode) c.in-Done.is (to_z-of_z {w = w32} (record { sfits = c.with_sign.type_inv }) ∙ c.with_sign.ensures) c.if-count-lt64.true
 
 pub loop-i-preserved : goal.loop-i-preserved
-loop-i-preserved c = let d = c in let n = d in on_full (inv (goal.at.loop-i-preserved c).After-step-mode) (turn (goal.at.loop-i-preserved c).After-step-mode) (stepped (goal.at.loop-i-preserved c).After-step-mode) d.mode-in-Done-1.given.1 c.if-count-lt64.false
+loop-i-preserved c = on_full (inv (goal.at.loop-i-preserved c).After-step-mode) (turn (goal.at.loop-i-preserved c).After-step-mode) (stepped (goal.at.loop-i-preserved c).After-step-mode) c.in-Done.is c.if-count-lt64.false
 
 pub returns-in-Dead : goal.returns-in-Dead
-returns-in-Dead c = let d = c in let n = d in c.refused_at.ensures ∙ on_dead (inv (goal.at.returns-in-Dead c).After-step-mode) (turn (goal.at.returns-in-Dead c).After-step-mode) (stepped (goal.at.returns-in-Dead c).After-step-mode) n.args.whole d.mode-in-Dead-1.given.1
+returns-in-Dead c = c.refused_at.ensures ∙ on_dead (inv (goal.at.returns-in-Dead c).After-step-mode) (turn (goal.at.returns-in-Dead c).After-step-mode) (stepped (goal.at.returns-in-Dead c).After-step-mode) c.args.whole c.in-Dead.is
 
 pub returns : goal.returns
-returns c = let l = c in c.settle.ensures ∙ on_end l.loop-i.invariant l.args.whole l.loop-i-test.false
+returns c = c.settle.ensures ∙ on_end c.loop-i.invariant c.args.whole c.loop-i-test.false

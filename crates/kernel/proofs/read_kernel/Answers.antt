@@ -1,7 +1,6 @@
 -- A whole file up to the limit, or the first bytes of a longer one.
 use mathlib.Core.Path.{sym}
 use native.Mathlib.Omega.{arith}
-use borrow.Author.Rules.{rules}
 use borrow.Author.Tests.{le-leb, lt-leb}
 use lib.Seq.{length-take-le}
 use Rattle.laws.proofs.Branches.{cond_yes, cond_rest}

@@ -1,7 +1,6 @@
 -- Where a file may end, is whole and has a pair, its table is judged.
 use mathlib.Core.Path.{sym, ap, ◌∙◌}
 use mathlib.Core.Bool.{◌&&◌}
-use borrow.Author.Rules.{rules}
 use lib.Dec.{ltb}
 use Rattle.laws.proofs.Branches.{cond_yes, cond_rest}
 use Rattle.answer.specs.declared.Refusal.TheVariants.{Kernel as KERNEL}
