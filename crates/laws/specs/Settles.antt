@@ -3,6 +3,7 @@
 -- Assumes nothing.
 use Rattle.std.specs.Prelude.{◌≡◌, ◌↔◌}
 use denote.Ref.{MutBor, at_last}
+use denote.Bor.{Bor}
 
 -- arguments, one after the other; `tt` ends them
 infixr 4 ◌&◌
@@ -12,6 +13,10 @@ x & y = (x, y)
 -- a value that is lent: `now` is what it holds
 abbrev pub Lent : Type 0 → Type 0
 Lent X = MutBor X
+
+-- and one that is lent to be read alone
+abbrev pub Shown : Type 0 → Type 0
+Shown X = Bor X
 
 -- a lent value that holds x when the call ends
 infix 5 ◌becomes◌
