@@ -2,7 +2,6 @@
 use mathlib.Core.Path.{◌∙◌}
 use native.Mathlib.Omega.{arith}
 use Rattle.seconds.proofs.Seconds.{fraction_long, fraction_short}
-use borrow.Author.Rules.{rules}
 use Rattle.seconds.proofs.fraction.Goals as goal
 
 pub returns-then-given-gt6 : goal.returns-then-given-gt6

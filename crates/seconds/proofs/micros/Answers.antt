@@ -6,15 +6,14 @@ use lib.ListN.{length}
 use Rattle.digits.specs.declared.Number.{Number}
 use Rattle.seconds.specs.Seconds.{joined, micros_given}
 use Rattle.seconds.proofs.Seconds.{front_is, joined_is, small}
-use borrow.Author.Rules.{rules}
 use Rattle.seconds.proofs.micros.Goals as goal
-use Rattle.seconds.proofs.micros.Goals.{After-fraction-part}
+use Rattle.seconds.proofs.micros.Goals.{After-fraction-part, In-Is-part}
 
-is : (c : goal.After-fraction-part) → joined c.decimal-whole.result c.fraction-part.result ≡ micros_given c.args.given.now
+is : (c : After-fraction-part) → joined c.decimal-whole.result c.fraction-part.result ≡ micros_given c.args.given.now
 is c =
     joined_is _ c.until-end.ensures.value c.past-from.ensures.0 c.decimal-whole.ensures c.fraction-part.ensures
 
-few : (c : goal.In-Is-part) → 1000000 * c.in-Is.w + c.in-Is-part.f ≤ 999999999999999999
+few : (c : In-Is-part) → 1000000 * c.in-Is.w + c.in-Is-part.f ≤ 999999999999999999
 few c =
     let h = small _ _ c.decimal-whole.ensures c.fraction-part.ensures c.in-Is.is c.in-Is-part.is in omega arith
 

@@ -2,7 +2,6 @@
 use mathlib.Core.Path.{sym, ap, subst, ◌∙◌}
 use Rattle.seconds.specs.Seconds.{ahead, backward, Short}
 use Rattle.seconds.proofs.Seconds.{move_none, move_minus, move_plus, move_plain, short_ahead, short_back}
-use borrow.Author.Rules.{rules}
 use Rattle.seconds.proofs.move_given.Goals as goal
 
 pub returns-then-given-eq0 : goal.returns-then-given-eq0

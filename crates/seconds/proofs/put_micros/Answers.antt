@@ -2,7 +2,6 @@
 use Rattle.digits.proofs.Bytes.{digits_from}
 use Rattle.seconds.specs.Seconds.{micros_text}
 use Rattle.phrases.proofs.Puts.{puts_as, then}
-use borrow.Author.Rules.{rules}
 use Rattle.seconds.proofs.put_micros.Goals as goal
 
 pub returns : goal.returns

@@ -4,7 +4,6 @@ use lib.IntN.{nat_abs}
 use mir.Facts.{to_z-of_z}
 use Rattle.seconds.specs.Seconds.{sign_text, micros_text, seconds_text}
 use Rattle.phrases.proofs.Puts.{puts_as, then}
-use borrow.Author.Rules.{rules}
 use Rattle.seconds.proofs.put_seconds.Goals as goal
 
 pub returns : goal.returns

@@ -2,7 +2,6 @@
 use Rattle.digits.proofs.Decimals.{sign_is}
 use Rattle.phrases.proofs.Puts.{puts_as}
 use Rattle.seconds.proofs.Seconds.{sign_low, sign_high}
-use borrow.Author.Rules.{rules}
 use Rattle.seconds.proofs.put_sign.Goals as goal
 
 pub returns-then-z-lt0 : goal.returns-then-z-lt0
