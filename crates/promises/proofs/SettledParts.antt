@@ -23,7 +23,7 @@ use Rattle.lines.proofs.Lines.{line_next}
 use Rattle.fields.specs.declared.Cursor.{Cursor}
 use Rattle.fields.specs.declared.U32Field.{U32Field}
 use Rattle.fields.specs.declared.I32Field.{I32Field}
-use Rattle.laws.specs.Settles.{Lent, Settles}
+use Rattle.laws.specs.Settles.{Shown, Settles}
 use Rattle.laws.proofs.Settles.{equal, each, following}
 use Rattle.promises.specs.SettledParts.{SettledParts, SettledTables, SettledBytes, SettledKinds}
 
@@ -60,7 +60,7 @@ settled_parts =
       nearest_of_lem = λ x factor shift k. equal;
     }
 
-pub settled_tables : (count : ℕ) (months : Lent (List ℕ)) (offsets : Lent (List ℤ)) (vouched : ℕ) → SettledTables count months offsets vouched
+pub settled_tables : (count : ℕ) (months : Shown (List ℕ)) (offsets : Shown (List ℤ)) (vouched : ℕ) → SettledTables count months offsets vouched
 settled_tables count months offsets vouched =
     record {
       tabled = λ k. equal;

@@ -21,7 +21,7 @@ use Rattle.text.specs.Marks.{read_text_marked, write_text_marked}
 use Rattle.julian.specs.declared.JulianDate.{JulianDate}
 use Rattle.julian.specs.Marks.{write_julian_marked, read_julian_marked}
 use Rattle.listing.specs.Listing.{listed}
-use Rattle.laws.specs.Settles.{◌&◌, Lent, ◌becomes◌, Returns, Leaves}
+use Rattle.laws.specs.Settles.{◌&◌, Lent, Shown, ◌becomes◌, Returns, Leaves}
 use Rattle.leap.proofs.bulletin_c.Reads as leap_bulletin_c
 use Rattle.block.proofs.read_block.Reads as block_read_block
 use Rattle.block.proofs.write_block.Reads as block_write_block
@@ -46,31 +46,31 @@ use Rattle.listing.proofs.list.Reads as listing_list
 -- the calls of the scope and of the requests, and what `ticks` prints for an input
 pub record Settled : Type 0 where
   pub bulletin_c_lem : Returns leap_bulletin_c.Pre leap_bulletin_c.Post tt bulletin_c
-  pub read_block_lem : (s : Lent (List ℕ)) → Returns block_read_block.Pre block_read_block.Post (s & tt) (read_block s.now)
+  pub read_block_lem : (s : Shown (List ℕ)) → Returns block_read_block.Pre block_read_block.Post (s & tt) (read_block s.now)
   pub write_block_lem : (t : Table) (out : Lent (List ℕ)) →
       Leaves block_write_block.Pre block_write_block.Post (t & out & tt) (λ bytes. t & out becomes bytes & tt)
       (write_block t out.now, write_block_after t out.now)
-  pub read_new_block_lem : (s : Lent (List ℕ)) → Returns block_read_new_block.Pre block_read_new_block.Post (s & tt) (read_new_block s.now)
+  pub read_new_block_lem : (s : Shown (List ℕ)) → Returns block_read_new_block.Pre block_read_new_block.Post (s & tt) (read_new_block s.now)
   pub write_new_block_lem : (t : Table) (out : Lent (List ℕ)) →
       Leaves block_write_new_block.Pre block_write_new_block.Post (t & out & tt) (λ bytes. t & out becomes bytes & tt)
       (write_new_block t out.now, write_new_block_after t out.now)
-  pub renew : (s : Lent (List ℕ)) (v : ℕ) (out : Lent (List ℕ)) →
+  pub renew : (s : Shown (List ℕ)) (v : ℕ) (out : Lent (List ℕ)) →
       Leaves block_renew.Pre block_renew.Post (s & v & out & tt) (λ bytes. s & v & out becomes bytes & tt)
       (renew s.now v out.now, renew_after s.now v out.now)
-  pub revert : (s out : Lent (List ℕ)) →
+  pub revert : (s : Shown (List ℕ)) (out : Lent (List ℕ)) →
       Leaves block_revert.Pre block_revert.Post (s & out & tt) (λ bytes. s & out becomes bytes & tt)
       (revert s.now out.now, revert_after s.now out.now)
-  pub read_kernel_lem : (s : Lent (List ℕ)) → Returns kernel_read_kernel.Pre kernel_read_kernel.Post (s & tt) (read_kernel s.now)
+  pub read_kernel_lem : (s : Shown (List ℕ)) → Returns kernel_read_kernel.Pre kernel_read_kernel.Post (s & tt) (read_kernel s.now)
   pub write_kernel_lem : (t : Table) (out : Lent (List ℕ)) →
       Leaves kernel_write_kernel.Pre kernel_write_kernel.Post (t & out & tt) (λ bytes. t & out becomes bytes & tt)
       (write_kernel t out.now, write_kernel_after t out.now)
-  pub read_cards_lem : (s : Lent (List ℕ)) → Returns cards_read_cards.Pre cards_read_cards.Post (s & tt) (read_cards s.now)
+  pub read_cards_lem : (s : Shown (List ℕ)) → Returns cards_read_cards.Pre cards_read_cards.Post (s & tt) (read_cards s.now)
   pub write_cards_lem : (t : Table) (out : Lent (List ℕ)) →
       Leaves cards_write_cards.Pre cards_write_cards.Post (t & out & tt) (λ bytes. t & out becomes bytes & tt)
       (write_cards t out.now, write_cards_after t out.now)
   pub instant_of_lem : (t : Table) (scale : ℕ) (r : Reading) → Returns stamp_instant_of.Pre stamp_instant_of.Post (t & scale & r & tt) (instant_of_marked t scale r)
   pub stamp_of_lem : (t : Table) (instant : ℤ) (scale : ℕ) → Returns stamp_stamp_of.Pre stamp_stamp_of.Post (t & instant & scale & tt) (stamp_of_marked t instant scale)
-  pub read_text_lem : (t : Table) (scale : ℕ) (text : Lent (List ℕ)) → Returns text_read_text.Pre text_read_text.Post (t & scale & text & tt) (read_text_marked t scale text.now)
+  pub read_text_lem : (t : Table) (scale : ℕ) (text : Shown (List ℕ)) → Returns text_read_text.Pre text_read_text.Post (t & scale & text & tt) (read_text_marked t scale text.now)
   pub write_text_lem : (t : Table) (instant : ℤ) (picture scale digits : ℕ) (out : Lent (List ℕ)) →
       Leaves text_write_text.Pre text_write_text.Post (t & instant & picture & scale & digits & out & tt) (λ bytes. t & instant & picture & scale & digits & out becomes bytes & tt)
       (write_text_marked t instant picture scale digits out.now, write_text_after t instant picture scale digits out.now)
@@ -78,6 +78,6 @@ pub record Settled : Type 0 where
   pub read_julian_lem : (t : Table) (scale : ℕ) (date : JulianDate) → Returns julian_read_julian.Pre julian_read_julian.Post (t & scale & date & tt) (read_julian_marked t scale date)
   pub clock_starts : (t : Table) → Returns clock_start.Pre clock_start.Post (t & tt) (start_marked t)
   pub clock_ticks : (t : Table) (l : Label) → Returns clock_tick.Pre clock_tick.Post (t & l & tt) (tick_marked t l)
-  pub list : (input out : Lent (List ℕ)) →
+  pub list : (input : Shown (List ℕ)) (out : Lent (List ℕ)) →
       Leaves listing_list.Pre listing_list.Post (input & out & tt) (λ bytes. input & out becomes bytes & tt)
       (written [] (listed input.now) out.now, buffer_after [] (listed input.now) out.now)

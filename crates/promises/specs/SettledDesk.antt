@@ -19,7 +19,7 @@ use Rattle.tablewords.specs.Words.{entries_text, table_words}
 use Rattle.tablewords.specs.Loading.{Load, load_block, load_kernel, load_cards, vouch as vouch_for}
 use Rattle.wording.specs.Wording.{answered}
 use Rattle.wording.specs.Summary.{summary_text, file_of}
-use Rattle.laws.specs.Settles.{◌&◌, Lent, ◌becomes◌, Returns, Leaves}
+use Rattle.laws.specs.Settles.{◌&◌, Lent, Shown, ◌becomes◌, Returns, Leaves}
 use Rattle.phrases.proofs.put.Reads as phrases_put
 use Rattle.phrases.proofs.put_unsigned.Reads as phrases_put_unsigned
 use Rattle.phrases.proofs.put_signed.Reads as phrases_put_signed
@@ -61,20 +61,20 @@ abbrev pub loaded_at : List ℕ → ℕ → Load → Loaded × List ℕ
 loaded_at l i load = let p = said_at l i load.reply in (record { said = p.0; table = load.table }, p.1)
 
 pub record SettledPhrases : Type 0 where
-  pub put : (out : Lent (List ℕ)) (at : ℕ) (text : Lent (List ℕ)) →
+  pub put : (out : Lent (List ℕ)) (at : ℕ) (text : Shown (List ℕ)) →
       Leaves phrases_put.Pre phrases_put.Post (out & at & text & tt) (λ after. out becomes after & at & text & tt) (put_at out.now at text.now)
   pub put_unsigned : (out : Lent (List ℕ)) (at n : ℕ) →
       Leaves phrases_put_unsigned.Pre phrases_put_unsigned.Post (out & at & n & tt) (λ after. out becomes after & at & n & tt) (put_at out.now at (decimal_text n))
   pub put_signed : (out : Lent (List ℕ)) (at : ℕ) (z : ℤ) →
       Leaves phrases_put_signed.Pre phrases_put_signed.Post (out & at & z & tt) (λ after. out becomes after & at & z & tt) (put_at out.now at (signed_text z))
-  pub put_quoted : (out : Lent (List ℕ)) (at : ℕ) (given : Lent (List ℕ)) →
+  pub put_quoted : (out : Lent (List ℕ)) (at : ℕ) (given : Shown (List ℕ)) →
       Leaves phrases_put_quoted.Pre phrases_put_quoted.Post (out & at & given & tt) (λ after. out becomes after & at & given & tt) (put_at out.now at (quoted given.now))
-  pub begins_with_lem : (s word : Lent (List ℕ)) → Returns phrases_begins_with.Pre phrases_begins_with.Post (s & word & tt) (begins_with word.now s.now)
-  pub up_to_lem : (s word : Lent (List ℕ)) → Returns phrases_up_to.Pre phrases_up_to.Post (s & word & tt) (length (up_to word.now s.now))
-  pub refuse_as : (out : Lent (List ℕ)) (at number sentence : ℕ) (given : Lent (List ℕ)) →
+  pub begins_with_lem : (s word : Shown (List ℕ)) → Returns phrases_begins_with.Pre phrases_begins_with.Post (s & word & tt) (begins_with word.now s.now)
+  pub up_to_lem : (s word : Shown (List ℕ)) → Returns phrases_up_to.Pre phrases_up_to.Post (s & word & tt) (length (up_to word.now s.now))
+  pub refuse_as : (out : Lent (List ℕ)) (at number sentence : ℕ) (given : Shown (List ℕ)) →
       Leaves phrases_refuse_as.Pre phrases_refuse_as.Post (out & at & number & sentence & given & tt) (λ after. out becomes after & at & number & sentence & given & tt)
       (said_at out.now at (refusing_as number sentence given.now))
-  pub refuse : (out : Lent (List ℕ)) (at : ℕ) (why : Refusal) (given : Lent (List ℕ)) →
+  pub refuse : (out : Lent (List ℕ)) (at : ℕ) (why : Refusal) (given : Shown (List ℕ)) →
       Leaves phrases_refuse.Pre phrases_refuse.Post (out & at & why & given & tt) (λ after. out becomes after & at & why & given & tt) (said_at out.now at (refusal why given.now))
   pub put_why : (out : Lent (List ℕ)) (at number : ℕ) →
       Leaves phrases_put_why.Pre phrases_put_why.Post (out & at & number & tt) (λ after. out becomes after & at & number & tt) (put_at out.now at (why_text number))
@@ -86,23 +86,23 @@ pub record SettledPhrases : Type 0 where
 pub record SettledSeconds : Type 0 where
   pub put_seconds : (out : Lent (List ℕ)) (at : ℕ) (z : ℤ) →
       Leaves seconds_put_seconds.Pre seconds_put_seconds.Post (out & at & z & tt) (λ after. out becomes after & at & z & tt) (put_at out.now at (seconds_text z))
-  pub move_given_lem : (given : Lent (List ℕ)) → Returns seconds_move_given.Pre seconds_move_given.Post (given & tt) (move_given given.now)
+  pub move_given_lem : (given : Shown (List ℕ)) → Returns seconds_move_given.Pre seconds_move_given.Post (given & tt) (move_given given.now)
 
 -- the line, or the part of it, that is at fault is quoted
 pub record SettledStampwords : Type 0 where
-  pub say_between : (t : Table) (a b out : Lent (List ℕ)) (at : ℕ) →
+  pub say_between : (t : Table) (a b : Shown (List ℕ)) (out : Lent (List ℕ)) (at : ℕ) →
       Leaves stampwords_say_between.Pre stampwords_say_between.Post (t & a & b & out & at & tt) (λ after. t & a & b & out becomes after & at & tt)
       (said_at out.now at (between_reply t a.now b.now))
-  pub say_pass : (t : Table) (name a b out : Lent (List ℕ)) (at : ℕ) →
+  pub say_pass : (t : Table) (name a b : Shown (List ℕ)) (out : Lent (List ℕ)) (at : ℕ) →
       Leaves stampwords_say_pass.Pre stampwords_say_pass.Post (t & name & a & b & out & at & tt) (λ after. t & name & a & b & out becomes after & at & tt)
       (said_at out.now at (pass_reply t name.now a.now b.now))
-  pub say_show : (t : Table) (line given clock out : Lent (List ℕ)) (at : ℕ) →
+  pub say_show : (t : Table) (line given clock : Shown (List ℕ)) (out : Lent (List ℕ)) (at : ℕ) →
       Leaves stampwords_say_show.Pre stampwords_say_show.Post (t & line & given & clock & out & at & tt) (λ after. t & line & given & clock & out becomes after & at & tt)
       (said_at out.now at (show_reply t line.now given.now clock.now))
-  pub say_after : (t : Table) (line given out : Lent (List ℕ)) (at : ℕ) →
+  pub say_after : (t : Table) (line given : Shown (List ℕ)) (out : Lent (List ℕ)) (at : ℕ) →
       Leaves stampwords_say_after.Pre stampwords_say_after.Post (t & line & given & out & at & tt) (λ after. t & line & given & out becomes after & at & tt)
       (said_at out.now at (after_reply t line.now given.now))
-  pub say_add : (t : Table) (line by given out : Lent (List ℕ)) (at : ℕ) →
+  pub say_add : (t : Table) (line by given : Shown (List ℕ)) (out : Lent (List ℕ)) (at : ℕ) →
       Leaves stampwords_say_add.Pre stampwords_say_add.Post (t & line & by & given & out & at & tt) (λ after. t & line & by & given & out becomes after & at & tt)
       (said_at out.now at (add_reply t line.now by.now given.now))
 
@@ -112,26 +112,26 @@ pub record SettledTablewords : Type 0 where
       Leaves tablewords_put_entries.Pre tablewords_put_entries.Post (t & out & at & tt) (λ after. t & out becomes after & at & tt) (put_at out.now at (entries_text t))
   pub put_words : (t : Table) (out : Lent (List ℕ)) (at : ℕ) →
       Leaves tablewords_put_words.Pre tablewords_put_words.Post (t & out & at & tt) (λ after. t & out becomes after & at & tt) (put_at out.now at (table_words t))
-  pub load_block_lem : (hex out : Lent (List ℕ)) (at : ℕ) →
+  pub load_block_lem : (hex : Shown (List ℕ)) (out : Lent (List ℕ)) (at : ℕ) →
       Leaves tablewords_load_block.Pre tablewords_load_block.Post (hex & out & at & tt) (λ after. hex & out becomes after & at & tt)
       (loaded_at out.now at (load_block hex.now))
-  pub load_kernel_lem : (given : Lent (List ℕ)) (readable : Bool) (file out : Lent (List ℕ)) (at : ℕ) →
+  pub load_kernel_lem : (given : Shown (List ℕ)) (readable : Bool) (file : Shown (List ℕ)) (out : Lent (List ℕ)) (at : ℕ) →
       Leaves tablewords_load_kernel.Pre tablewords_load_kernel.Post (given & readable & file & out & at & tt) (λ after. given & readable & file & out becomes after & at & tt)
       (loaded_at out.now at (load_kernel given.now readable file.now))
-  pub load_cards_lem : (given : Lent (List ℕ)) (readable : Bool) (file out : Lent (List ℕ)) (at : ℕ) →
+  pub load_cards_lem : (given : Shown (List ℕ)) (readable : Bool) (file : Shown (List ℕ)) (out : Lent (List ℕ)) (at : ℕ) →
       Leaves tablewords_load_cards.Pre tablewords_load_cards.Post (given & readable & file & out & at & tt) (λ after. given & readable & file & out becomes after & at & tt)
       (loaded_at out.now at (load_cards given.now readable file.now))
-  pub vouch : (t : Table) (month out : Lent (List ℕ)) (at : ℕ) →
+  pub vouch : (t : Table) (month : Shown (List ℕ)) (out : Lent (List ℕ)) (at : ℕ) →
       Leaves tablewords_vouch.Pre tablewords_vouch.Post (t & month & out & at & tt) (λ after. t & month & out becomes after & at & tt)
       (loaded_at out.now at (vouch_for t month.now))
 
 -- the answer to a line with the table from then on, the part of a line that names a file, and the last line
 pub record SettledWording : Type 0 where
-  pub answer : (line : Lent (List ℕ)) (t : Table) (readable : Bool) (file out : Lent (List ℕ)) (at : ℕ) →
+  pub answer : (line : Shown (List ℕ)) (t : Table) (readable : Bool) (file : Shown (List ℕ)) (out : Lent (List ℕ)) (at : ℕ) →
       Leaves wording_answer.Pre wording_answer.Post (line & t & readable & file & out & at & tt) (λ after. line & t & readable & file & out becomes after & at & tt)
       (loaded_at out.now at (answered t readable file.now line.now))
-  pub file_of_lem : (line : Lent (List ℕ)) → Returns wording_file_of.Pre wording_file_of.Post (line & tt) (file_of line.now)
-  pub summary : (count bad : ℕ) (first out : Lent (List ℕ)) (at : ℕ) →
+  pub file_of_lem : (line : Shown (List ℕ)) → Returns wording_file_of.Pre wording_file_of.Post (line & tt) (file_of line.now)
+  pub summary : (count bad : ℕ) (first : Shown (List ℕ)) (out : Lent (List ℕ)) (at : ℕ) →
       Leaves wording_summary.Pre wording_summary.Post (count & bad & first & out & at & tt) (λ after. count & bad & first & out becomes after & at & tt)
       (put_at out.now at (summary_text count bad first.now))
 

@@ -48,7 +48,7 @@ use Rattle.fields.specs.declared.U32Field.{U32Field}
 use Rattle.fields.specs.declared.I32Field.{I32Field}
 use Rattle.fields.specs.Words.{word_at}
 use Rattle.fields.specs.Fields.{natural_at, integer_at, hex_at, pattern_at}
-use Rattle.laws.specs.Settles.{◌&◌, Lent, ◌becomes◌, Returns, Leaves}
+use Rattle.laws.specs.Settles.{◌&◌, Lent, Shown, ◌becomes◌, Returns, Leaves}
 use Rattle.answer.proofs.number_of.Reads as answer_number_of
 use Rattle.answer.proofs.marks_of.Reads as answer_marks_of
 use Rattle.answer.proofs.write.Reads as answer_write
@@ -146,7 +146,7 @@ use Rattle.fields.proofs.pattern.Reads as fields_pattern
 pub record SettledParts : Type 0 where
   pub refusal_number : (why : Refusal) → Returns answer_number_of.Pre answer_number_of.Post (why & tt) (number why)
   pub marks_of : (beyond : Bool) → Returns answer_marks_of.Pre answer_marks_of.Post (beyond & tt) (marks beyond)
-  pub write : (bytes out : Lent (List ℕ)) →
+  pub write : (bytes : Shown (List ℕ)) (out : Lent (List ℕ)) →
       Leaves answer_write.Pre answer_write.Post (bytes & out & tt) (λ after. bytes & out becomes after & tt)
       (written [] bytes.now out.now, buffer_after [] bytes.now out.now)
   pub refused_at_lem : (why : Refusal) (at : ℕ) → Returns leap_refused_at.Pre leap_refused_at.Post (why & at & tt) (refused_at why at)
@@ -158,7 +158,7 @@ pub record SettledParts : Type 0 where
   pub vouched_right_lem : (last v : ℕ) → Returns leap_vouched_right.Pre leap_vouched_right.Post (last & v & tt) (vouched_right last v)
   pub beyond : (v m : ℕ) → Returns leap_beyond.Pre leap_beyond.Post (v & m & tt) (beyond v m)
   pub month_of_lem : (l : Label) → Returns labels_month_of.Pre labels_month_of.Post (l & tt) (month_of l)
-  pub read_either_lem : (s : Lent (List ℕ)) → Returns block_read_either.Pre block_read_either.Post (s & tt) (read_either s.now)
+  pub read_either_lem : (s : Shown (List ℕ)) → Returns block_read_either.Pre block_read_either.Post (s & tt) (read_either s.now)
   pub judge : (most : ℕ) (r : Reading) → Returns labels_judge.Pre labels_judge.Post (most & r & tt) (judged most r)
   pub in_last_minute_lem : (days : ℕ) (l : Label) → Returns labels_in_last_minute.Pre labels_in_last_minute.Post (days & l & tt) (in_last_minute days l)
   pub minute_length_lem : (days : ℕ) (here after : ℤ) (l : Label) → Returns labels_minute_length.Pre labels_minute_length.Post (days & here & after & l & tt) (minute_in days here after l)
@@ -176,7 +176,7 @@ pub record SettledParts : Type 0 where
   pub nearest_of_lem : (x : Float) (factor shift : ℕ) → Returns fraction_nearest_of.Pre fraction_nearest_of.Post (x & factor & shift & tt) (nearest_at factor shift x)
 
 -- what is asked of a table whose two arrays are lent: where it is judged, with its month; and past that of its entries alone
-module _ (count : ℕ) (months : Lent (List ℕ)) (offsets : Lent (List ℤ)) (vouched : ℕ) where
+module _ (count : ℕ) (months : Shown (List ℕ)) (offsets : Shown (List ℤ)) (vouched : ℕ) where
   abbrev entered : Table
   entered = tabled count months.now offsets.now
 
@@ -198,8 +198,8 @@ module _ (count : ℕ) (months : Lent (List ℕ)) (offsets : Lent (List ℤ)) (v
 
 -- bytes: digits, pictures, lines and their fields
 pub record SettledBytes : Type 0 where
-  pub byte_at : (s : Lent (List ℕ)) (i : ℕ) → Returns digits_byte_at.Pre digits_byte_at.Post (s & i & tt) (get_or s.now i 0)
-  pub append : (out : Lent (List ℕ)) (at : ℕ) (text : Lent (List ℕ)) →
+  pub byte_at : (s : Shown (List ℕ)) (i : ℕ) → Returns digits_byte_at.Pre digits_byte_at.Post (s & i & tt) (get_or s.now i 0)
+  pub append : (out : Lent (List ℕ)) (at : ℕ) (text : Shown (List ℕ)) →
       Leaves digits_append.Pre digits_append.Post (out & at & text & tt) (λ after. out becomes after & at & text & tt)
       (end_of out.now at text.now, appended out.now at text.now)
   pub append_unsigned : (out : Lent (List ℕ)) (at n : ℕ) →
@@ -208,12 +208,12 @@ pub record SettledBytes : Type 0 where
   pub append_signed : (out : Lent (List ℕ)) (at : ℕ) (z : ℤ) →
       Leaves digits_append_signed.Pre digits_append_signed.Post (out & at & z & tt) (λ after. out becomes after & at & z & tt)
       (end_of out.now at (signed_text z), appended out.now at (signed_text z))
-  pub append_hex : (out : Lent (List ℕ)) (at : ℕ) (bytes : Lent (List ℕ)) →
+  pub append_hex : (out : Lent (List ℕ)) (at : ℕ) (bytes : Shown (List ℕ)) →
       Leaves lines_append_hex.Pre lines_append_hex.Post (out & at & bytes & tt) (λ after. out becomes after & at & bytes & tt)
       (end_of out.now at (hex_shown bytes.now), appended out.now at (hex_shown bytes.now))
   pub is_digit_lem : (b : ℕ) → Returns digits_is_digit.Pre digits_is_digit.Post (b & tt) (is_digit b)
   pub digit_value_lem : (b : ℕ) → Returns digits_digit_value.Pre digits_digit_value.Post (b & tt) (digit_value b)
-  pub decimal : (word : Lent (List ℕ)) (most : ℕ) → Returns digits_decimal.Pre digits_decimal.Post (word & most & tt) (decimal_of most word.now)
+  pub decimal : (word : Shown (List ℕ)) (most : ℕ) → Returns digits_decimal.Pre digits_decimal.Post (word & most & tt) (decimal_of most word.now)
   pub with_sign : (minus : Bool) (n : ℕ) → Returns digits_with_sign.Pre digits_with_sign.Post (minus & n & tt) (signed minus n)
   pub magnitude : (z : ℤ) → Returns digits_magnitude.Pre digits_magnitude.Post (z & tt) (nat_abs z)
   pub digits : (n : ℕ) → Returns digits_digits.Pre digits_digits.Post (n & tt) (digits_of 9 n)
@@ -222,39 +222,39 @@ pub record SettledBytes : Type 0 where
   pub write_fields : (f : Fields) (out : Lent (List ℕ)) →
       Leaves pictures_write_fields.Pre pictures_write_fields.Post (f & out & tt) (λ after. f & out becomes after & tt)
       (written [] (picture_text f) out.now, buffer_after [] (picture_text f) out.now)
-  pub read_fields_lem : (text : Lent (List ℕ)) → Returns pictures_read_fields.Pre pictures_read_fields.Post (text & tt) (read_fields text.now)
-  pub until : (s : Lent (List ℕ)) (from b : ℕ) → Returns lines_until.Pre lines_until.Post (s & from & b & tt) (from + length (before b (drop from s.now)))
-  pub past_blanks : (s : Lent (List ℕ)) (from : ℕ) → Returns lines_past_blanks.Pre lines_past_blanks.Post (s & from & tt) (from + length (leading is_blank (drop from s.now)))
-  pub past : (s : Lent (List ℕ)) (from b : ℕ) → Returns lines_past.Pre lines_past.Post (s & from & b & tt) (past b s.now from)
-  pub all_blank_lem : (s : Lent (List ℕ)) → Returns columns_all_blank.Pre columns_all_blank.Post (s & tt) (all_blank s.now)
-  pub passed_over : (line : Lent (List ℕ)) → Returns columns_passed_over.Pre columns_passed_over.Post (line & tt) (passed_over line.now)
-  pub decimal_in_lem : (s : Lent (List ℕ)) → Returns columns_decimal_in.Pre columns_decimal_in.Post (s & tt) (decimal_in s.now)
+  pub read_fields_lem : (text : Shown (List ℕ)) → Returns pictures_read_fields.Pre pictures_read_fields.Post (text & tt) (read_fields text.now)
+  pub until : (s : Shown (List ℕ)) (from b : ℕ) → Returns lines_until.Pre lines_until.Post (s & from & b & tt) (from + length (before b (drop from s.now)))
+  pub past_blanks : (s : Shown (List ℕ)) (from : ℕ) → Returns lines_past_blanks.Pre lines_past_blanks.Post (s & from & tt) (from + length (leading is_blank (drop from s.now)))
+  pub past : (s : Shown (List ℕ)) (from b : ℕ) → Returns lines_past.Pre lines_past.Post (s & from & b & tt) (past b s.now from)
+  pub all_blank_lem : (s : Shown (List ℕ)) → Returns columns_all_blank.Pre columns_all_blank.Post (s & tt) (all_blank s.now)
+  pub passed_over : (line : Shown (List ℕ)) → Returns columns_passed_over.Pre columns_passed_over.Post (line & tt) (passed_over line.now)
+  pub decimal_in_lem : (s : Shown (List ℕ)) → Returns columns_decimal_in.Pre columns_decimal_in.Post (s & tt) (decimal_in s.now)
   pub whole : (number places : ℕ) → Returns columns_whole.Pre columns_whole.Post (number & places & tt) (whole_of number places)
-  pub line_start_lem : (s : Lent (List ℕ)) (k : ℕ) → Returns lines_line_start.Pre lines_line_start.Post (s & k & tt) (line_start s.now k)
-  pub front : (s : Lent (List ℕ)) (n : ℕ) → Returns lines_front.Pre lines_front.Post (s & n & tt) (min n (length s.now))
-  pub hold : (line : Lent (List ℕ)) (held : ℕ) (piece : Lent (List ℕ)) →
+  pub line_start_lem : (s : Shown (List ℕ)) (k : ℕ) → Returns lines_line_start.Pre lines_line_start.Post (s & k & tt) (line_start s.now k)
+  pub front : (s : Shown (List ℕ)) (n : ℕ) → Returns lines_front.Pre lines_front.Post (s & n & tt) (min n (length s.now))
+  pub hold : (line : Lent (List ℕ)) (held : ℕ) (piece : Shown (List ℕ)) →
       Leaves lines_hold.Pre lines_hold.Post (line & held & piece & tt) (λ after. line becomes after & held & piece & tt)
       (min (held + length piece.now) (length line.now), held_in line.now held piece.now)
-  pub take_line : (chunk : Lent (List ℕ)) (from : ℕ) (line : Lent (List ℕ)) (held : ℕ) →
+  pub take_line : (chunk : Shown (List ℕ)) (from : ℕ) (line : Lent (List ℕ)) (held : ℕ) →
       Leaves lines_take_line.Pre lines_take_line.Post (chunk & from & line & held & tt) (λ after. chunk & from & line becomes after & held & tt)
       (cut_at chunk.now from (length line.now) held, held_in line.now held (piece_at chunk.now from))
   pub hex_digit : (b : ℕ) → Returns lines_hex_digit.Pre lines_hex_digit.Post (b & tt) (nibble b)
-  pub hex : (word out : Lent (List ℕ)) →
+  pub hex : (word : Shown (List ℕ)) (out : Lent (List ℕ)) →
       Leaves lines_hex.Pre lines_hex.Post (word & out & tt) (λ after. word & out becomes after & tt)
       (hex_of (length out.now) word.now, hex_into out.now word.now)
-  pub ended : (line : Lent (List ℕ)) (c : Cursor) → Returns fields_ended.Pre fields_ended.Post (line & c & tt) (c.fine && eqb c.at (length line.now))
-  pub number_field : (line : Lent (List ℕ)) (c : Cursor) (most : ℕ) → Returns fields_number_field.Pre fields_number_field.Post (line & c & most & tt) (natural_at most line.now c)
-  pub u32_field_lem : (line : Lent (List ℕ)) (c : Cursor) →
+  pub ended : (line : Shown (List ℕ)) (c : Cursor) → Returns fields_ended.Pre fields_ended.Post (line & c & tt) (c.fine && eqb c.at (length line.now))
+  pub number_field : (line : Shown (List ℕ)) (c : Cursor) (most : ℕ) → Returns fields_number_field.Pre fields_number_field.Post (line & c & most & tt) (natural_at most line.now c)
+  pub u32_field_lem : (line : Shown (List ℕ)) (c : Cursor) →
       Returns {R = U32Field} fields_u32_field.Pre fields_u32_field.Post (line & c & tt)
       (record { value = (natural_at (2 ^ 32 - 1) line.now c).value; next = (natural_at (2 ^ 32 - 1) line.now c).next })
-  pub i64_field : (line : Lent (List ℕ)) (c : Cursor) → Returns fields_i64_field.Pre fields_i64_field.Post (line & c & tt) (integer_at (2 ^ 63 - 1) line.now c)
-  pub i32_field_lem : (line : Lent (List ℕ)) (c : Cursor) →
+  pub i64_field : (line : Shown (List ℕ)) (c : Cursor) → Returns fields_i64_field.Pre fields_i64_field.Post (line & c & tt) (integer_at (2 ^ 63 - 1) line.now c)
+  pub i32_field_lem : (line : Shown (List ℕ)) (c : Cursor) →
       Returns {R = I32Field} fields_i32_field.Pre fields_i32_field.Post (line & c & tt)
       (record { value = (integer_at (2 ^ 31 - 1) line.now c).value; next = (integer_at (2 ^ 31 - 1) line.now c).next })
-  pub hex_field : (line : Lent (List ℕ)) (c : Cursor) (out : Lent (List ℕ)) →
+  pub hex_field : (line : Shown (List ℕ)) (c : Cursor) (out : Lent (List ℕ)) →
       Leaves fields_hex_field.Pre fields_hex_field.Post (line & c & out & tt) (λ after. line & c & out becomes after & tt)
       (hex_at (length out.now) line.now c, hex_into out.now (word_at line.now c.at))
-  pub pattern_field : (line : Lent (List ℕ)) (c : Cursor) → Returns fields_pattern_field.Pre fields_pattern_field.Post (line & c & tt) (pattern_at line.now c)
+  pub pattern_field : (line : Shown (List ℕ)) (c : Cursor) → Returns fields_pattern_field.Pre fields_pattern_field.Post (line & c & tt) (pattern_at line.now c)
   pub double : (bits : ℕ) → Returns fields_double.Pre fields_double.Post (bits & tt) (of_bits binary64 bits)
   pub pattern : (x : Float) → Returns fields_pattern.Pre fields_pattern.Post (x & tt) (to_bits binary64 x)
 
