@@ -8,3 +8,4 @@ pub mod Held
 pub mod Promise
 pub mod Moving
 pub mod Desk
+pub mod Storing

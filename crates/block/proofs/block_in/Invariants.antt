@@ -1,20 +1,7 @@
-use Prim.Native.Nat.{◌+◌, ◌-◌, ◌<◌, ◌≤◌}
-use mathlib.Core.Path.{◌≡◌, refl, sym, ap, ◌∙◌}
-use mathlib.Core.List.{◌++◌}
-use native.Mathlib.Omega.{arith}
-use borrow.Author.Rules.{sfits_of}
-use lib.ListN.{length, get_or, take}
-use lib.IntN.{pos}
-use mir.Syntax.{w32}
-use Rattle.laws.proofs.Machine.{read2}
-use lib.Dec.{lit≤}
-use Rattle.leap.specs.declared.Table.{Table}
+use Prim.Native.Nat.{◌-◌}
+use lib.ListN.{take}
 use Rattle.leap.specs.Leap.{tabled, vouched_to}
-use Rattle.leap.proofs.Facts.{Accepted, accepted_to}
-use Rattle.block.proofs.Blocks.{month_small, opened_long, opened_room, opened_front, step_after, Stored, stored_first, stored_last, stored_small, stored_more}
-use Rattle.block.specs.declared.Form.{Form}
-use Rattle.block.specs.Numbers.{number_bytes}
-use Rattle.block.specs.Blocks.{step_number, block_of}
+use Rattle.block.proofs.Blocks.{Stored}
 use Rattle.block.proofs.block_in.Given as goal
 
 abbrev pub invariant-loop-k : goal.invariant-loop-k

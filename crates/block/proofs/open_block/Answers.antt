@@ -5,7 +5,6 @@ use mathlib.Core.List.{List}
 use native.Mathlib.Omega.{arith}
 use lib.ListN.{length, length-append}
 use lib.Seq.{sets, length-sets}
-use borrow.Author.Rules.{rules}
 use Rattle.block.specs.declared.Form.TheVariants.{New}
 use Rattle.block.specs.Blocks.{opening}
 use Rattle.block.specs.Numbers.{number_bytes}
@@ -22,19 +21,20 @@ both_stored v l {first} {second} {at} ea ef es =
     let one : at ≡ 1 = omega (arith, zero_size) in
     es ∙ ap₂ (λ x k. sets x k (number_bytes v)) ef one ∙ rw zero_bytes refl
 
-pub write_number-at-requires : goal.write_number-at-requires
-write_number-at-requires c = omega (arith, zero_size, c.requires)
+pub write_number-at-requires-clause-n_in_bounds : goal.write_number-at-requires-clause-n_in_bounds
+write_number-at-requires-clause-n_in_bounds c = omega (arith, zero_size, c.requires)
 
-pub write_number-requires : goal.write_number-requires
-write_number-requires c = let z = c in let a = z in omega (arith, zero_size, z.write_number-at.ensures.0, ap length z.write_number-at.ensures.1, length-sets a.args.out.now 0 (number_bytes 0), number_size a.args.vouched, a.requires)
+pub write_number-requires-clause-n_in_bounds : goal.write_number-requires-clause-n_in_bounds
+write_number-requires-clause-n_in_bounds c =
+    let e = c.write_number-at.ensures in
+    omega (arith, zero_size, e.value, ap length e.out_after, length-sets c.args.out.now 0 (number_bytes 0), number_size c.args.vouched, c.requires)
 
 pub returns-in-New : goal.returns-in-New
 returns-in-New c =
-    let w = c in
-    let z = w in
-    let n = z in
-    let a = n.args in
-    rw n.enum_told-in-New-1.given.1 (
-      omega (arith, zero_size, z.write_number-at.ensures.0, w.write_number.ensures.0, length-append (number_bytes 0) (number_bytes a.vouched)),
-      both_stored a.vouched a.out.now z.write_number-at.ensures.0 z.write_number-at.ensures.1 w.write_number.ensures.1,
+    let v = c.args.vouched in
+    let e = c.write_number-at.ensures in
+    let f = c.write_number.ensures in
+    rw c.in-New.is (
+      omega (arith, zero_size, e.value, f.value, length-append (number_bytes 0) (number_bytes v)),
+      both_stored v c.args.out.now e.value e.out_after f.out_after,
     )
