@@ -307,9 +307,10 @@ def table_of_block(_, rest):
 def front_of_file(name, number):
     """As much as shows whether it is too long; the number is that of a file that cannot be read."""
     try:
+        name.decode()
         with open(name, 'rb') as file:
             return file.read(MOST_FILE_BYTES + 1)
-    except (OSError, ValueError):  # ValueError: a name with a NUL
+    except (OSError, ValueError):  # ValueError: a name with a NUL, or one that is not UTF-8
         raise NotLoaded(number, name, NO_FILE) from None
 
 

@@ -58,7 +58,7 @@ KERNEL_FILES = {
     'empty.tls': b'',
     'full.tls': (BEGIN_DATA + OURS).ljust(desk.MOST_FILE_BYTES),
     'long.tls': (BEGIN_DATA + OURS).ljust(desk.MOST_FILE_BYTES + 1),
-    'f\xfcr to on.tls': second.kernel_of_table(T),
+    'f\xc3\xbcr to on.tls': second.kernel_of_table(T),
 }
 CARD_FILES = {
     'falling.tp': cards_file(*COMMENTS, THIRD_CARD, b'', SECOND_CARD, FIRST_CARD),
@@ -72,19 +72,23 @@ CARD_FILES = {
     'full.tp': cards_file(FIRST_CARD).ljust(desk.MOST_FILE_BYTES),
     'long.tp': cards_file(FIRST_CARD).ljust(desk.MOST_FILE_BYTES + 1),
     'long and bad.tp': b'x\n'.ljust(desk.MOST_FILE_BYTES + 1),
+    'f\xc3\xbcr to on.tp': second.cards_of_table(T),
+}
+CLOSED_FILES = {  # good, under names that are not UTF-8, by which no file is opened
+    'f\xfcr to on.tls': second.kernel_of_table(T),
     'f\xfcr to on.tp': second.cards_of_table(T),
 }
 FILES = {**KERNEL_FILES, **CARD_FILES}
 STORED_KERNEL, STORED_CARDS = 'leapseconds.tls', 'leapseconds.tp'  # both of Bulletin C
 NO_FILES = ('no-such-file', '.', '..', '', ' ', './', 'no-such-file/x', STORED_KERNEL + '/x', STORED_KERNEL + ' ', ' ' + STORED_KERNEL,
-            STORED_KERNEL + '\x00', STORED_CARDS + '/x', STORED_CARDS + '.', '\xff\xfe', 'n' * 300)
+            STORED_KERNEL + '\x00', STORED_CARDS + '/x', STORED_CARDS + '.', '\xff\xfe', 'n' * 300, *CLOSED_FILES)
 
 
 def lay_out_files(folder):
     """For `desk` to run there."""
     for name in (STORED_KERNEL, STORED_CARDS):
         shutil.copy(os.path.join(os.path.dirname(os.path.abspath(__file__)), '..', 'examples', name), folder)
-    for name, file in FILES.items():
+    for name, file in (*FILES.items(), *CLOSED_FILES.items()):
         with open(os.path.join(os.fsencode(folder), name.encode('latin-1')), 'wb') as output:
             output.write(file)
 
