@@ -1,5 +1,6 @@
 -- What leaves the reader where it stands is passed over.
-use mathlib.Core.Path.{subst, sym, ap, ◌∙◌}
+use mathlib.Core.Path.{◌≡◌, subst, sym, ap, ◌∙◌}
+use native.Mathlib.Omega.{arith}
 use Rattle.automaton.specs.declared.Mode.TheVariants.{Rest}
 use Rattle.automaton.specs.declared.Resting.TheVariants.{Text}
 use Rattle.kernel.specs.Reading.{ReadsOn}
@@ -17,7 +18,8 @@ returns-then-k-eq16 c =
 pub returns-then-k-eq0 : goal.returns-then-k-eq0
 returns-then-k-eq0 c =
     let a = c.args in
-    subst (λ r. ReadsOn a.s.now (Rest r) a.i c.past_blanks.result) (sym (c.in-Text.is ∙ ap Text c.if-k-eq0.true)) (text_blanks (only_blanks c.requires c.past_blanks.ensures.value))
+    let z : c.in-Text.k ≡ 0 = omega arith in
+    subst (λ r. ReadsOn a.s.now (Rest r) a.i c.past_blanks.result) (sym (c.in-Text.is ∙ ap Text z)) (text_blanks (only_blanks c.requires c.past_blanks.ensures.value))
 
 -- and in data
 pub returns-in-Fresh : goal.returns-in-Fresh
