@@ -126,6 +126,7 @@ enum MomentAnswer {
 }
 
 // A microsecond that a scale shows, where TAI is `offset` seconds on, as the axis counts it.
+#[tactic(auto, unfolding(labels::specs::Seconds::axis_at))]
 fn axis_at(micro: u64, offset: i32) -> i64
     requires { micro ≤ 400000000000000000 }
     ensures { result ≡ axis_at micro offset }
@@ -270,6 +271,7 @@ impl Scale {
         a - 63113947200000000 - f
     }
 
+    #[tactic(auto, unfolding(crate::specs::Scales::to_axis))]
     fn axis(self, instant: i64) -> u64
         requires { (negsuc 62999999999999999 ≤ℤ instant) × (instant ≤ℤ pos 300000000000000000) }
         ensures { result ≡ axis_count self instant }
@@ -280,6 +282,7 @@ impl Scale {
 }
 
 // What every call with a table and a scale is asked first.
+#[tactic(auto, unfolding(crate::specs::Scales::asked))]
 pub fn asked<'a>(
     count: usize,
     months: &'a [u32; 64],
@@ -334,6 +337,7 @@ fn marked_instant(answer: InstantAnswer, mark: bool) -> MarkedInstant
 // ---- a stamp to its instant
 
 // What a reading shows, whose month has `start` days before it.
+#[tactic(auto, unfolding(labels::specs::Seconds::second_of))]
 fn micro_of(r: Reading, start: u64) -> u64
     requires start_value { (start ≡ days_before (month_of r.label)) × (start ≤ 4000000) }
     requires le_day { (1 ≤ r.label.day) × ((r.label.day ≤ 31) × ((r.label.hour ≤ 23) × ((r.label.minute ≤ 59) × ((r.label.second ≤ 60) × (r.micro ≤ 999999))))) }

@@ -20,7 +20,7 @@ use Rattle.stamp.specs.Parts.{day_after}
 use Rattle.stamp.specs.Scales.{offsets_of}
 use Rattle.stamp.proofs.Days.{day_behind}
 use Rattle.stamp.proofs.day_on.Goals as goal
-use Rattle.stamp.proofs.day_on.Goals.{After-day_after-next, After-day_seconds, After-month_of_day-span, Start}
+use Rattle.stamp.proofs.day_on.Goals.{After-month_of_day-span, Start}
 
 module _ (c : goal.Start) where
   abbrev o : Offsets
@@ -40,33 +40,23 @@ module _ (c : goal.After-month_of_day-span) where
   end_is =
       omega (arith, ap (λ (x : Span). x.start) c.month_of_day-span.ensures, ap (λ (x : Span). x.length) c.month_of_day-span.ensures, days_next (m c.before))
 
-module _ (c : goal.After-day_after-next) where
-  here_fits : SFits w32 c.near-near.result.here
-  here_fits = record { sfits = c.struct_told-1.given.0.1 }
-
-  next_fits : SFits w32 c.near-near.result.next
-  next_fits = record { sfits = c.struct_told-2-1.given.1.0.1 }
-
-  here_is : to_z w32 (of_z w32 c.near-near.result.here) ≡ o a (m a)
-  here_is = to_z-of_z here_fits ∙ c.near-near.ensures.0 ∙ ap (o a) (number_is month)
-
-  next_is : to_z w32 (of_z w32 c.near-near.result.next) ≡ o a (m a + 1)
-  next_is = to_z-of_z next_fits ∙ c.near-near.ensures.1 ∙ ap (λ (k : ℕ). o a (k + 1)) (number_is month)
-
-  next_told : c.day_after-next.result ≡ day_start (o a) (d a + 1)
-  next_told =
-      let told : c.day_after-next.result ≡ day_after (day_start (o a) (d a)) (eqb (d a + 1) (days_before (m a + 1))) (o a (m a + 1)) = c.day_after-next.ensures ∙ cc (here_is, next_is, end_is month, number_is month) in
-      told ∙ day_behind (o a) (d a)
-
-seconds_are : (c : goal.After-day_seconds) → let b = c.before.before.before in c.day_seconds.result ≡ day_seconds (o (a b)) (d (a b))
-seconds_are c =
-    let b = c.before.before.before in
-    c.day_seconds.ensures
-    ∙ ap (λ (n : ℕ). seconds_in (eqb (d (a b) + 1) n) (to_z w32 (of_z w32 b.near-near.result.here)) (to_z w32 (of_z w32 b.near-near.result.next))) (end_is (month b))
-    ∙ ap₂ (seconds_in (eqb (d (a b) + 1) (days_before (m (a b) + 1)))) (here_is b) (next_is b)
-
 pub overflow_add-last-2 : goal.overflow_add-last-2
-overflow_add-last-2 c = let k = c in record { fits = omega (arith, end_is (goal.at.overflow_add-last-2 c).After-month_of_day-span, days_next (m (goal.at.overflow_add-last-2 c).Start), length_most (m (goal.at.overflow_add-last-2 c).Start), in_month (d (goal.at.overflow_add-last-2 c).Start)) }
+overflow_add-last-2 c =
+    let s = (goal.at.overflow_add-last-2 c).Start in
+    record { fits = omega (arith, end_is (goal.at.overflow_add-last-2 c).After-month_of_day-span, days_next (m s), length_most (m s), in_month (d s)) }
 
 pub returns : goal.returns
-returns c = let b = c in cc (here_is (goal.at.returns c).After-day_after-next, number_is (month b), seconds_are (goal.at.returns c).After-day_seconds, next_told (goal.at.returns c).After-day_after-next)
+returns c =
+    let s = (goal.at.returns c).Start in
+    let span = (goal.at.returns c).After-month_of_day-span in
+    let here-fits : SFits w32 c.near-near.result.here = search rules in
+    let next-fits : SFits w32 c.near-near.result.next = search rules in
+    let here : to_z w32 (of_z w32 c.near-near.result.here) ≡ o s (m s) = to_z-of_z here-fits ∙ c.near-near.ensures.0 ∙ ap (o s) (number_is span) in
+    let next : to_z w32 (of_z w32 c.near-near.result.next) ≡ o s (m s + 1) = to_z-of_z next-fits ∙ c.near-near.ensures.1 ∙ ap (λ (k : ℕ). o s (k + 1)) (number_is span) in
+    let told : c.day_after-next.result ≡ day_after (day_start (o s) (d s)) (eqb (d s + 1) (days_before (m s + 1))) (o s (m s + 1)) = c.day_after-next.ensures ∙ cc (here, next, end_is span, number_is span) in
+    let behind : c.day_after-next.result ≡ day_start (o s) (d s + 1) = told ∙ day_behind (o s) (d s) in
+    let seconds : c.day_seconds.result ≡ day_seconds (o s) (d s) =
+    c.day_seconds.ensures
+    ∙ ap (λ (n : ℕ). seconds_in (eqb (d s + 1) n) (to_z w32 (of_z w32 c.near-near.result.here)) (to_z w32 (of_z w32 c.near-near.result.next))) (end_is span)
+    ∙ ap₂ (seconds_in (eqb (d s + 1) (days_before (m s + 1)))) here next in
+    cc (here, number_is span, seconds, behind)

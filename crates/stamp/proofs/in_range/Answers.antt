@@ -15,7 +15,7 @@ use Rattle.labels.specs.Seconds.{in_years}
 use Rattle.stamp.specs.Scales.{offsets_of}
 use Rattle.stamp.proofs.Ranges.{too_early, too_late, near_axis, near_count}
 use Rattle.stamp.proofs.in_range.Goals as goal
-use Rattle.stamp.proofs.in_range.Goals.{Else-instant-gt300000000000000000, Start}
+use Rattle.stamp.proofs.in_range.Goals.{Start}
 
 module _ (c : goal.Start) where
   abbrev table : Table
@@ -28,37 +28,32 @@ module _ (c : goal.Start) where
   same : to_z w64 (of_z w64 c.args.instant) ≡ c.args.instant
   same = to_z-of_z c.ranges.instant
 
-module _ (c : goal.Else-instant-gt300000000000000000) where
-  low : negsuc 62999999999999999 ≤ℤ c.args.instant
-  low =
-      let z : lt_z (to_z w64 (of_z w64 c.args.instant)) (negsuc 62999999999999999) ≡ false = c.if-instant-ltminus63000000000000000.false in
-      le_from (negsuc 62999999999999999) c.args.instant (lt_z_false c.args.instant (negsuc 62999999999999999) (ap (λ (x : ℤ). lt_z x (negsuc 62999999999999999)) (sym (same s)) ∙ z))
+-- between the two tests
+low : (x : ℤ) → to_z w64 (of_z w64 x) ≡ x → lt_z (to_z w64 (of_z w64 x)) (negsuc 62999999999999999) ≡ false → negsuc 62999999999999999 ≤ℤ x
+low x s z = le_from (negsuc 62999999999999999) x (lt_z_false x (negsuc 62999999999999999) (ap (λ (y : ℤ). lt_z y (negsuc 62999999999999999)) (sym s) ∙ z))
 
-  high : c.args.instant ≤ℤ pos 300000000000000000
-  high =
-      let z : lt_z (pos 300000000000000000) (to_z w64 (of_z w64 c.args.instant)) ≡ false = c.if-instant-gt300000000000000000.false in
-      le_from c.args.instant (pos 300000000000000000) (lt_z_false (pos 300000000000000000) c.args.instant (ap (lt_z (pos 300000000000000000)) (sym (same s)) ∙ z))
+high : (x : ℤ) → to_z w64 (of_z w64 x) ≡ x → lt_z (pos 300000000000000000) (to_z w64 (of_z w64 x)) ≡ false → x ≤ℤ pos 300000000000000000
+high x s z = le_from x (pos 300000000000000000) (lt_z_false (pos 300000000000000000) x (ap (lt_z (pos 300000000000000000)) (sym s) ∙ z))
 
 pub returns-then-instant-ltminus63000000000000000 : goal.returns-then-instant-ltminus63000000000000000
-returns-then-instant-ltminus63000000000000000 c = let b = c in
-    let z : lt_z (to_z w64 (of_z w64 b.args.instant)) (negsuc 62999999999999999) ≡ true = c.if-instant-ltminus63000000000000000.true in
-    sym (too_early (table (goal.at.returns-then-instant-ltminus63000000000000000 c).Start) (acc (goal.at.returns-then-instant-ltminus63000000000000000 c).Start) b.args.scale b.args.instant (omega (arith, lt_z_true b.args.instant (negsuc 62999999999999999) (ap (λ (x : ℤ). lt_z x (negsuc 62999999999999999)) (sym (same (goal.at.returns-then-instant-ltminus63000000000000000 c).Start)) ∙ z))))
+returns-then-instant-ltminus63000000000000000 c =
+    let b = (goal.at.returns-then-instant-ltminus63000000000000000 c).Start in
+    let z : lt_z (to_z w64 (of_z w64 c.args.instant)) (negsuc 62999999999999999) ≡ true = c.if-instant-ltminus63000000000000000.true in
+    sym (too_early (table b) (acc b) c.args.scale c.args.instant (omega (arith, lt_z_true c.args.instant (negsuc 62999999999999999) (ap (λ (x : ℤ). lt_z x (negsuc 62999999999999999)) (sym (same b)) ∙ z))))
 
 pub returns-then-instant-gt300000000000000000 : goal.returns-then-instant-gt300000000000000000
-returns-then-instant-gt300000000000000000 c = let b = c in
-    let z : lt_z (pos 300000000000000000) (to_z w64 (of_z w64 b.args.instant)) ≡ true = c.if-instant-gt300000000000000000.true in
-    sym (too_late (table (goal.at.returns-then-instant-gt300000000000000000 c).Start) (acc (goal.at.returns-then-instant-gt300000000000000000 c).Start) b.args.scale b.args.instant (omega (arith, lt_z_true (pos 300000000000000000) b.args.instant (ap (lt_z (pos 300000000000000000)) (sym (same (goal.at.returns-then-instant-gt300000000000000000 c).Start)) ∙ z))))
-
-pub axis-requires : goal.axis-requires
-axis-requires c = rw (same (s c)) (low (goal.at.axis-requires c).Else-instant-gt300000000000000000, high (goal.at.axis-requires c).Else-instant-gt300000000000000000)
+returns-then-instant-gt300000000000000000 c =
+    let b = (goal.at.returns-then-instant-gt300000000000000000 c).Start in
+    let z : lt_z (pos 300000000000000000) (to_z w64 (of_z w64 c.args.instant)) ≡ true = c.if-instant-gt300000000000000000.true in
+    sym (too_late (table b) (acc b) c.args.scale c.args.instant (omega (arith, lt_z_true (pos 300000000000000000) c.args.instant (ap (lt_z (pos 300000000000000000)) (sym (same b)) ∙ z))))
 
 pub in_years-requires : goal.in_years-requires
-in_years-requires c = let e = c in
-    let b = e in
-    (b.requires, omega (arith, rw (same (goal.at.in_years-requires c).Start) at c.axis.ensures, near_count b.args.scale b.args.instant (low (goal.at.in_years-requires c).Else-instant-gt300000000000000000) (high (goal.at.in_years-requires c).Else-instant-gt300000000000000000)))
+in_years-requires c =
+    let b = (goal.at.in_years-requires c).Start in
+    (c.requires, omega (arith, rw (same b) at c.axis.ensures, near_count c.args.scale c.args.instant (low c.args.instant (same b) c.if-instant-ltminus63000000000000000.false) (high c.args.instant (same b) c.if-instant-gt300000000000000000.false)))
 
 pub returns : goal.returns
-returns c = let e = c in
-    let b = e in
+returns c =
+    let b = (goal.at.returns c).Start in
     c.in_years.ensures
-    ∙ ap (λ (a : ℤ). in_years (offsets_of (table (goal.at.returns c).Start) b.args.scale) a) (ap pos (rw (same (goal.at.returns c).Start) at c.axis.ensures) ∙ sym (near_axis b.args.scale b.args.instant (low (goal.at.returns c).Else-instant-gt300000000000000000) (high (goal.at.returns c).Else-instant-gt300000000000000000)))
+    ∙ ap (λ (a : ℤ). in_years (offsets_of (table b) c.args.scale) a) (ap pos (rw (same b) at c.axis.ensures) ∙ sym (near_axis c.args.scale c.args.instant (low c.args.instant (same b) c.if-instant-ltminus63000000000000000.false) (high c.args.instant (same b) c.if-instant-gt300000000000000000.false)))

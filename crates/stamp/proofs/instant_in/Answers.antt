@@ -2,7 +2,6 @@
 use mathlib.Core.Path.{◌≡◌, sym, ap, ◌∙◌}
 use mathlib.Core.List.{[], ◌∷◌}
 use Prim.Native.Nat.{ℕ}
-use borrow.Author.Rules.{rules}
 use Rattle.answer.specs.declared.Refusal.TheVariants.{NoSecond as NOSECOND}
 use Rattle.answer.specs.Refusals.{refusing}
 use Rattle.leap.specs.declared.Table.{Table}
@@ -33,10 +32,10 @@ module _ (c : goal.After-judge) where
   answered e = then_judged (most_second c.args.scale) c.args.r Refused rest (told ∙ e)
 
 pub instant_judged-requires : goal.instant_judged-requires
-instant_judged-requires c = let j = c in told (goal.at.instant_judged-requires c).After-judge ∙ c.month-1.given.1
+instant_judged-requires c = told (goal.at.instant_judged-requires c).After-judge ∙ c.in-Real.is
 
 pub returns-in-Real : goal.returns-in-Real
-returns-in-Real c = let j = c in c.instant_judged.ensures ∙ answered (goal.at.returns-in-Real c).After-judge c.month-1.given.1
+returns-in-Real c = c.instant_judged.ensures ∙ answered (goal.at.returns-in-Real c).After-judge c.in-Real.is
 
 pub returns-in-Refused : goal.returns-in-Refused
-returns-in-Refused c = answered (goal.at.returns-in-Refused c).After-judge c.why-1.given.1
+returns-in-Refused c = answered (goal.at.returns-in-Refused c).After-judge c.in-Refused.is

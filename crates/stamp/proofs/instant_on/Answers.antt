@@ -6,6 +6,8 @@ use borrow.Author.Rules.{rules, sfits_of}
 use borrow.Author.Tests.{le-leb, lt-leb}
 use lib.Dec.{leb}
 use lib.IntN.{ℤ}
+use mir.Syntax.{w32, w64}
+use mir.Val.{SFits}
 use mir.Facts.{to_z-of_z}
 use Rattle.laws.proofs.Branches.{and_no, and_rest}
 use Rattle.laws.proofs.Cases.{join}
@@ -55,24 +57,29 @@ module _ (c : goal.Start) where
 
 pub returns-then-number-lt-FIRST_DAY : goal.returns-then-number-lt-FIRST_DAY
 unfolding answer
-returns-then-number-lt-FIRST_DAY c = let s = c in c.refused_instant.ensures ∙ ap (marked (goal.at.returns-then-number-lt-FIRST_DAY c).Start) (early (goal.at.returns-then-number-lt-FIRST_DAY c).Start c.if-number-lt-FIRST_DAY.true)
+returns-then-number-lt-FIRST_DAY c =
+    let s = (goal.at.returns-then-number-lt-FIRST_DAY c).Start in
+    c.refused_instant.ensures ∙ ap (marked s) (early s c.if-number-lt-FIRST_DAY.true)
 
 -- named, so that a fault of the mark or of a test shows where what it calls has one too
 pub returns-then-number-gt-LAST_DAY : goal.returns-then-number-gt-LAST_DAY
 unfolding answer
-returns-then-number-gt-LAST_DAY c = let e = c in let s = e in c.refused_instant-then-number-gt-LAST_DAY.ensures ∙ ap (marked (goal.at.returns-then-number-gt-LAST_DAY c).Start) (late (goal.at.returns-then-number-gt-LAST_DAY c).Start e.if-number-lt-FIRST_DAY.false c.if-number-gt-LAST_DAY.true)
+returns-then-number-gt-LAST_DAY c =
+    let s = (goal.at.returns-then-number-gt-LAST_DAY c).Start in
+    c.refused_instant-then-number-gt-LAST_DAY.ensures ∙ ap (marked s) (late s c.if-number-lt-FIRST_DAY.false c.if-number-gt-LAST_DAY.true)
 
 pub returns-then-micro-gt-LONGEST : goal.returns-then-micro-gt-LONGEST
 unfolding answer
-returns-then-micro-gt-LONGEST c = let f = c in let s = f in c.refused_instant-then-micro-gt-LONGEST.ensures ∙ ap (marked (goal.at.returns-then-micro-gt-LONGEST c).Start) (long s f.if-number-lt-FIRST_DAY.false f.if-number-gt-LAST_DAY.false c.if-micro-gt-LONGEST.true)
+returns-then-micro-gt-LONGEST c =
+    let s = (goal.at.returns-then-micro-gt-LONGEST c).Start in
+    c.refused_instant-then-micro-gt-LONGEST.ensures ∙ ap (marked s) (long s c.if-number-lt-FIRST_DAY.false c.if-number-gt-LAST_DAY.false c.if-micro-gt-LONGEST.true)
 
 pub returns : goal.returns
 unfolding answer
 returns c =
-    let g = c in
-    let f = g in
-    let s = f in
+    let s = (goal.at.returns c).Start in
+    let offset : SFits w32 c.args.day.offset = search rules in
     ap₂ (λ (a : InstantAnswer) (b : Bool). record { answer = a; beyond = b })
-    (ap At (to_z-of_z (sfits_of c.instant.type_inv) ∙ read1 (λ (z : ℤ). to_instant s.args.scale (axis_at (86400000000 * number (goal.at.returns c).Start + s.args.micro) z)) (record { sfits = c.struct_told-1.given.1.1.0.1 }) c.instant.ensures))
+    (ap At (to_z-of_z {w = w64} (sfits_of c.instant.type_inv) ∙ read1 (λ (z : ℤ). to_instant c.args.scale (axis_at (86400000000 * number s + c.args.micro) z)) offset c.instant.ensures))
     c.beyond_on.ensures
-    ∙ ap (marked (goal.at.returns c).Start) (fine s f.if-number-lt-FIRST_DAY.false f.if-number-gt-LAST_DAY.false g.if-micro-gt-LONGEST.false)
+    ∙ ap (marked s) (fine s c.if-number-lt-FIRST_DAY.false c.if-number-gt-LAST_DAY.false c.if-micro-gt-LONGEST.false)

@@ -1,6 +1,5 @@
 use mathlib.Core.Path.{◌≡◌, sym, ◌∙◌}
 use lib.IntN.{ℤ}
-use borrow.Author.Rules.{rules}
 use Rattle.laws.proofs.Machine.{read1}
 use Rattle.leap.specs.declared.Table.{Table}
 use Rattle.leap.specs.Leap.{tabled, vouched_to}
@@ -25,11 +24,14 @@ module _ (c : goal.After-asked) where
   answered e = then_asked table c.args.scale Refused (λ k. moment_in table k c.args.instant) (told e)
 
 pub moment_in-requires : goal.moment_in-requires
-moment_in-requires c = let a = c in without_month_lem (table (goal.at.moment_in-requires c).After-asked) _ (asked_accepted (table (goal.at.moment_in-requires c).After-asked) _ _ (told (goal.at.moment_in-requires c).After-asked c.s-1.given.1))
+moment_in-requires c =
+    let a = (goal.at.moment_in-requires c).After-asked in
+    without_month_lem (table a) _ (asked_accepted (table a) _ _ (told a c.in-On.is))
 
 pub returns-in-On : goal.returns-in-On
-returns-in-On c = let a = c in
-    read1 (λ (x : ℤ). moment_in (table (goal.at.returns-in-On c).After-asked) c.s-1.given.0.0 x) a.ranges.instant c.moment_in.ensures ∙ answered (goal.at.returns-in-On c).After-asked c.s-1.given.1
+returns-in-On c =
+    let a = (goal.at.returns-in-On c).After-asked in
+    read1 (λ (x : ℤ). moment_in (table a) c.in-On.s x) c.ranges.instant c.moment_in.ensures ∙ answered a c.in-On.is
 
 pub returns-in-Refused : goal.returns-in-Refused
-returns-in-Refused c = answered (goal.at.returns-in-Refused c).After-asked c.why-1.given.1
+returns-in-Refused c = answered (goal.at.returns-in-Refused c).After-asked c.in-Refused.is

@@ -1,6 +1,5 @@
 use mathlib.Core.Path.{◌≡◌, sym, ap, ap₂, ◌∙◌}
 use mathlib.Core.Bool.{Bool}
-use borrow.Author.Rules.{rules}
 use lib.IntN.{ℤ}
 use Rattle.laws.proofs.Machine.{read1}
 use Rattle.leap.specs.declared.Table.{Table}
@@ -19,15 +18,13 @@ module _ (c : goal.After-moment_of) where
   table = vouched_to c.args.vouched (tabled c.args.count c.args.months.now c.args.offsets.now)
 
   answered : {v : MomentAnswer} → c.moment_of.result ≡ v → stamped c.args.vouched v ≡ stamp_of_marked table c.args.instant c.args.scale
-  answered e = ap (stamped c.args.vouched) (sym e ∙ read1 (λ (x : ℤ). moment_of table x c.args.scale) c.fits.instant c.moment_of.ensures) ∙ stamp_of_moment table c.args.instant c.args.scale
+  answered e = ap (stamped c.args.vouched) (sym e ∙ read1 (λ (x : ℤ). moment_of table x c.args.scale) c.ranges.instant c.moment_of.ensures) ∙ stamp_of_moment table c.args.instant c.args.scale
 
 pub returns-in-In : goal.returns-in-In
 returns-in-In c =
-    let l = c in
-    let k = l in
-    let m = k.m-1.given.0.0 in
-    ap₂ (λ (x : Label) (b : Bool). marked_stamp (Stamped (record { scale = m.scale; reading = record { label = x; micro = m.micro } })) b) l.label_of-label.ensures c.beyond_on-beyond.ensures
-    ∙ answered (goal.at.returns-in-In c).After-moment_of k.m-1.given.1
+    let m = c.in-In.m in
+    ap₂ (λ (x : Label) (b : Bool). marked_stamp (Stamped (record { scale = m.scale; reading = record { label = x; micro = m.micro } })) b) c.label_of-label.ensures c.beyond_on-beyond.ensures
+    ∙ answered (goal.at.returns-in-In c).After-moment_of c.in-In.is
 
 pub returns-in-Refused : goal.returns-in-Refused
-returns-in-Refused c = answered (goal.at.returns-in-Refused c).After-moment_of c.why-1.given.1
+returns-in-Refused c = answered (goal.at.returns-in-Refused c).After-moment_of c.in-Refused.is

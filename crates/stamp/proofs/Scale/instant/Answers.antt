@@ -1,6 +1,6 @@
 -- `stamp::Scale::instant` meets its contract: no step leaves an i64.
 use mathlib.Core.Path.{◌≡◌, sym, subst}
-use borrow.Author.Rules.{rules, sfits_of}
+use borrow.Author.Rules.{sfits_of}
 use lib.IntN.{ℤ, pos, ◌-ℤ◌}
 use mir.Syntax.{w64}
 use mir.Val.{SFits}
