@@ -43,6 +43,7 @@ fn shown(year: u32, month: u32, day: u32, hour: u32, minute: u32, second: u32) -
 }
 
 // The offsets by which the label's minute is long; only the last minute of a month asks the table.
+#[tactic(auto, unfolding(labels::specs::Labels::minute_in))]
 fn near_end<'a>(
     count: usize,
     months: &'a [u32; 64],
@@ -59,6 +60,7 @@ fn near_end<'a>(
 }
 
 // The rule: `days` is the length of the label's month, `seconds` that of its minute.
+#[tactic(auto, unfolding(crate::specs::Clock::next))]
 fn next(days: u32, seconds: u32, l: Label) -> TickAnswer
     requires { l.second ≤ 60 }
     ensures { result ≡ next days seconds l }
@@ -121,6 +123,7 @@ fn tick_in<'a>(count: usize, months: &'a [u32; 64], offsets: &'a [i32; 64], l: L
 }
 
 // The answer of `start`, not yet marked.
+#[tactic(auto, unfolding(crate::specs::Clock::start))]
 fn started<'a>(
     count: usize,
     months: &'a [u32; 64],
@@ -136,6 +139,7 @@ fn started<'a>(
 }
 
 // The answer of `tick`, not yet marked.
+#[tactic(auto, unfolding(crate::specs::Clock::tick))]
 fn ticked<'a>(
     count: usize,
     months: &'a [u32; 64],
