@@ -1,10 +1,10 @@
 -- A file of cards is read line by line: what is left to read, behind the entries so far, is the whole.
 -- Assumes nothing.
-use Prim.Native.Nat.{ℕ, zero, suc, ◌+◌, ◌-◌, ◌≤◌, ◌<◌, min}
+use Prim.Native.Nat.{ℕ, zero, suc, ◌+◌, ◌≤◌, ◌<◌, min}
 use mathlib.Core.Path.{◌≡◌, refl, sym, ap, ap₂, subst, ◌∙◌}
 use mathlib.Core.Logic.{inl, inr}
-use mathlib.Core.Bool.{Bool, true, false, cond, not}
-use mathlib.Core.List.{List, [], ◌∷◌, ◌++◌, reverse, reverse-cons}
+use mathlib.Core.Bool.{Bool, true, false, cond}
+use mathlib.Core.List.{List, [], ◌∷◌, ◌++◌, reverse}
 use native.Mathlib.Omega.{arith}
 use lib.Dec.{ltb}
 use lib.IntN.{ℤ, pos}
@@ -14,7 +14,7 @@ use Rattle.laws.proofs.Cases.{by_order}
 use Rattle.answer.specs.declared.Refusal.TheVariants.{Table as TABLE, Card as CARD}
 use Rattle.digits.specs.Decimals.{signed}
 use Rattle.leap.specs.Leap.{tabled}
-use Rattle.leap.specs.Entries.{Entry, entries, table_of}
+use Rattle.leap.specs.Entries.{Entry, table_of}
 use Rattle.leap.specs.Readers.{refused_at, judged}
 use Rattle.leap.proofs.Entries.{Holds, holds_more, holds_table, entries_of}
 use Rattle.leap.proofs.Kept.{SameOrLarge, Kept, kept_append, kept_long, kept_reverse, kept_judged}

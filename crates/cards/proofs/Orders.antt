@@ -173,7 +173,7 @@ module _ {es : List Entry} {count : ℕ} {falling : Bool} {last : ℕ} (e : Entr
 
   pub follows_is : follows count falling last e.0 ≡ in_order (es ++ e ∷ [])
   unfolding follows
-  follows_is = rw (count_test 1 (omega arith), count_test 2 (omega arith), o.falling_is) (follows_all e o.last_is o.in_order)
+  follows_is = rw (count_test 1 (omega arith), count_test 2 (omega arith), o.falling_is) (follows_all e o.last_is o.by_order)
 
   more : {n : ℕ} → (n ≤ 64 → length es + 1 ≡ n) → (64 < n → 64 ≤ length es) → in_order (es ++ e ∷ []) ≡ true → Ordered (es ++ e ∷ []) n (ltb e.0 last) e.0
   more f m i =

@@ -4,7 +4,7 @@ use Prim.Native.Nat.{ℕ, zero, suc, ◌+◌, ◌*◌, ◌/◌, ◌%◌, ◌^◌
 use mathlib.Core.Path.{◌≡◌, refl, sym, ap, subst, ◌∙◌}
 use mathlib.Core.Logic.{inl}
 use mathlib.Core.Bool.{Bool, true, not, ◌&&◌}
-use mathlib.Core.List.{List, [], ◌∷◌, ◌++◌, map}
+use mathlib.Core.List.{List, [], ◌∷◌, ◌++◌}
 use native.Mathlib.Omega.{arith}
 use borrow.Author.Tests.{le-leb, ne_eqb, not-true, lt-leb}
 use lib.Dec.{eqb}
@@ -22,7 +22,7 @@ use Rattle.leap.proofs.Facts.{Accepted, accepted_to}
 use Rattle.leap.proofs.Offsets.{Fine, all_fine}
 use Rattle.leap.proofs.Entries.{entries_long}
 use Rattle.digits.specs.Bytes.{ascii}
-use Rattle.digits.specs.Decimals.{is_digit, digit_value, all_digits, spelled, signed, digits_of}
+use Rattle.digits.specs.Decimals.{digit_value, all_digits, spelled, signed, digits_of}
 use Rattle.digits.proofs.Decimals.{number_back, digits_all, spelled_append}
 use Rattle.columns.specs.Columns.{all_blank}
 use Rattle.columns.specs.Lines.{lines_of}

@@ -1,7 +1,6 @@
 -- Blank, or else what a decimal is found in.
 use mathlib.Core.Path.{◌≡◌, sym, ap, ◌∙◌}
 use mathlib.Core.Bool.{Bool}
-use borrow.Author.Rules.{rules}
 use Rattle.cards.specs.Reading.{is_plain, blank_or_plain}
 use Rattle.cards.proofs.Fields.{blank_yes, blank_else}
 use Rattle.cards.proofs.blank_or_plain.Goals as goal
@@ -16,7 +15,7 @@ pub returns-then-all_blank : goal.returns-then-all_blank
 returns-then-all_blank c = blank_yes _ (sym c.all_blank.ensures ∙ c.if-all_blank.true)
 
 pub returns-in-Plain : goal.returns-in-Plain
-returns-in-Plain c = else_plain (goal.at.returns-in-Plain c).After-decimal_in (ap is_plain (sym c.enum_told-1.given.1))
+returns-in-Plain c = else_plain (goal.at.returns-in-Plain c).After-decimal_in (ap is_plain (sym c.in-Plain.is))
 
 pub returns-in-Not : goal.returns-in-Not
-returns-in-Not c = else_plain (goal.at.returns-in-Not c).After-decimal_in (ap is_plain (sym c.enum_told-in-Not-1.given.1))
+returns-in-Not c = else_plain (goal.at.returns-in-Not c).After-decimal_in (ap is_plain (sym c.in-Not.is))

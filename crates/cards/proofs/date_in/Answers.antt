@@ -3,7 +3,6 @@ use Prim.Native.Nat.{ℕ, ◌+◌, ◌-◌, ◌*◌, ◌/◌, ◌≤◌, ◌<◌
 use mathlib.Core.Path.{◌≡◌, sym, ◌∙◌}
 use mathlib.Core.Bool.{true, false}
 use native.Mathlib.Omega.{arith}
-use borrow.Author.Rules.{rules}
 use Rattle.digits.specs.declared.Number.TheVariants.{Is, Bad}
 use Rattle.cards.specs.Card.{last_card_month, card_date}
 use Rattle.cards.specs.Reading.{month_in, date_in}
@@ -11,33 +10,35 @@ use Rattle.cards.proofs.Fields.{three, month_is_lem, early, late, date_is, other
 use Rattle.cards.proofs.date_in.Goals as goal
 use Rattle.cards.proofs.date_in.Goals.{After-digit_at-3, After-same}
 
+abbrev day : ℕ → ℕ → ℕ → ℕ
+day a b d = (a * 10 + b) * 10 + d
+
+abbrev month : ℕ → ℕ → ℕ → ℕ → ℕ
+month year a b d = 12 * (year - 1972) + day a b d / 30
+
 -- the month, guessed
-module _ (c : goal.After-digit_at-3) where
-  abbrev day : ℕ
-  day = (c.digit_at.result * 10 + c.digit_at-2.result) * 10 + c.digit_at-3.result
+module _ (c : After-digit_at-3) where
+  guessed : month c.year_in-year.result c.digit_at.result c.digit_at-2.result c.digit_at-3.result ≡ month_in c.args.s.now
+  guessed = month_is_lem c.args.s.now c.year_in-year.ensures.0 (three c.args.s.now c.digit_at.ensures.0 c.digit_at-2.ensures.0 c.digit_at-3.ensures.0)
 
-  abbrev month : ℕ
-  month = 12 * (c.year_in-year.result - 1972) + day / 30
-
-  guessed : month ≡ month_in c.args.s.now
-  guessed = let s = c.args.s.now in month_is_lem s c.year_in-year.ensures.0 (three s c.digit_at.ensures.0 c.digit_at-2.ensures.0 c.digit_at-3.ensures.0)
-
-  short : day < 1000
+  short : day c.digit_at.result c.digit_at-2.result c.digit_at-3.result < 1000
   short = omega (arith, c.digit_at.ensures.1, c.digit_at-2.ensures.1, c.digit_at-3.ensures.1)
 
 -- and compared
-module _ (c : goal.After-same) where
-  facts : (c.same.result ≡ true → Is (month k) ≡ date_in c.args.s.now)
+module _ (c : After-same) where
+  abbrev m : ℕ
+  m = month c.year_in-year.result c.digit_at.result c.digit_at-2.result c.digit_at-3.result
+
+  facts : (c.same.result ≡ true → Is m ≡ date_in c.args.s.now)
       × (c.same.result ≡ false → Bad ≡ date_in c.args.s.now)
-      × (month k ≤ last_card_month)
+      × (m ≤ last_card_month)
   facts =
-      let y = c.before.before.before.before in
-      let t = c.before.before in
-      let l = t.if-month-gt-LAST_MONTH.false in
-      let s = y.args.s.now in
-      let f : c.same.result ≡ true → card_date (month k) ≡ s = λ e. sym t.date_text.ensures ∙ c.same.ensures.0 e in
-      let g : card_date (month k) ≡ s → c.same.result ≡ true = λ e. c.same.ensures.1 (t.date_text.ensures ∙ e) in
-      (date_is s y.year_in-year.ensures.0 y.if-year-lt1972.left (guessed k) l f g, other s y.year_in-year.ensures.0 y.if-year-lt1972.left (guessed k) l f g, l)
+      let s = c.args.s.now in
+      let g = month_is_lem s c.year_in-year.ensures.0 (three s c.digit_at.ensures.0 c.digit_at-2.ensures.0 c.digit_at-3.ensures.0) in
+      let l = c.if-month-gt-LAST_MONTH.false in
+      let f : c.same.result ≡ true → card_date m ≡ s = λ e. sym c.date_text.ensures ∙ c.same.ensures.0 e in
+      let b : card_date m ≡ s → c.same.result ≡ true = λ e. c.same.ensures.1 (c.date_text.ensures ∙ e) in
+      (date_is s c.year_in-year.ensures.0 c.if-year-lt1972.false g l f b, other s c.year_in-year.ensures.0 c.if-year-lt1972.false g l f b, l)
 
 pub returns-then-year-lt1972 : goal.returns-then-year-lt1972
 returns-then-year-lt1972 c = (early _ c.year_in-year.ensures.0 c.if-year-lt1972.true, tt)
@@ -61,7 +62,7 @@ pub overflow_add-month : goal.overflow_add-month
 overflow_add-month c = omega (arith, short (goal.at.overflow_add-month c).After-digit_at-3, c.year_in-year.ensures.1)
 
 pub returns-then-month-gt-LAST_MONTH : goal.returns-then-month-gt-LAST_MONTH
-returns-then-month-gt-LAST_MONTH c = let k = c in let y = k in (late _ y.year_in-year.ensures.0 y.if-year-lt1972.false (guessed (goal.at.returns-then-month-gt-LAST_MONTH c).After-digit_at-3) c.if-month-gt-LAST_MONTH.true, tt)
+returns-then-month-gt-LAST_MONTH c = (late _ c.year_in-year.ensures.0 c.if-year-lt1972.false (guessed (goal.at.returns-then-month-gt-LAST_MONTH c).After-digit_at-3) c.if-month-gt-LAST_MONTH.true, tt)
 
 pub date_text-requires : goal.date_text-requires
 date_text-requires c = omega (arith, c.if-month-gt-LAST_MONTH.false)

@@ -1,7 +1,6 @@
 -- The digits of the year and of the day, picked one by one.
 use Prim.Native.Nat.{◌+◌}
 use native.Mathlib.Omega.{arith}
-use borrow.Author.Rules.{rules}
 use Rattle.months.proofs.Laws.{days_most}
 use Rattle.leap.specs.Leap.{epoch}
 use Rattle.cards.proofs.date_text.Goals as goal

@@ -1,6 +1,5 @@
 -- A digit, or 0.
 use mathlib.Core.Path.{ap, ◌∙◌}
-use borrow.Author.Rules.{rules}
 use Rattle.digits.specs.Decimals.{digit_value}
 use Rattle.cards.proofs.digit_at.Goals as goal
 

@@ -1,7 +1,6 @@
 -- Five texts on a blank card.
 use mathlib.Core.Path.{◌≡◌}
 use native.Mathlib.Omega.{arith}
-use borrow.Author.Rules.{rules}
 use lib.ListN.{length}
 use mir.Syntax.{w64}
 use mir.Facts.{to_z-of_z, sfits_widen}
@@ -16,19 +15,12 @@ width : (c : goal.After-signed_width) → c.signed_width.result ≡ length (sign
 width c = read1 (λ z. length (signed_text z)) c.ranges.offset c.signed_width.ensures
 
 pub overflow_sub-signed_width : goal.overflow_sub-signed_width
-overflow_sub-signed_width c = let s = c in omega (arith, width (goal.at.overflow_sub-signed_width c).After-signed_width, signed_short s.args.offset s.requires.1)
+overflow_sub-signed_width c = omega (arith, width (goal.at.overflow_sub-signed_width c).After-signed_width, signed_short c.args.offset c.requires.1)
 
 pub overflow_cast-offset : goal.overflow_cast-offset
 overflow_cast-offset c = let f = c.ranges.offset in rw (to_z-of_z f) (sfits_widen tt f)
 
 pub returns : goal.returns
 returns c =
-    let kind = c in
-    let date = kind in
-    let tdt = date in
-    let point = tdt in
-    let number = point in
-    let w = number in
-    let s = w in
-    rw (kind.append-4.ensures.text, date.append-3.ensures.text, tdt.append-2.ensures.text, point.append.ensures.text, number.append_signed.ensures.text, width (goal.at.returns c).After-signed_width, widened w64 tt s.ranges.offset, w.date_text-date.ensures)
-    (card_filled (s.args.month, s.args.offset) s.requires.1)
+    rw (c.append-4.ensures.text, c.append-3.ensures.text, c.append-2.ensures.text, c.append.ensures.text, c.append_signed.ensures.text, width (goal.at.returns c).After-signed_width, widened w64 tt c.ranges.offset, c.date_text-date.ensures)
+    (card_filled (c.args.month, c.args.offset) c.requires.1)

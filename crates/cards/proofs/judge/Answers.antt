@@ -1,6 +1,5 @@
 -- Over 64 cards are no table, whichever way they stand.
 use mathlib.Core.Path.{ap, sym, ◌∙◌}
-use borrow.Author.Rules.{rules}
 use Rattle.leap.specs.Leap.{tabled}
 use Rattle.leap.specs.Readers.{judged}
 use Rattle.cards.specs.Reading.{turned}

@@ -1,15 +1,6 @@
-use Prim.Native.Nat.{◌+◌, ◌-◌}
-use mathlib.Core.Path.{refl, sym, ap, subst, ◌∙◌}
-use mathlib.Core.List.{reverse}
-use lib.ListN.{set, take}
-use native.Mathlib.Omega.{arith}
-use borrow.Author.Rules.{rules}
-use mir.Facts.{to_z-of_z}
+use Prim.Native.Nat.{◌-◌}
 use Rattle.leap.specs.Leap.{tabled}
-use Rattle.leap.specs.Entries.{entry, entries}
-use Rattle.leap.specs.Readers.{judged}
-use Rattle.leap.proofs.Entries.{Holds}
-use Rattle.cards.proofs.Turned.{Turning, turning_more, turning_end}
+use Rattle.cards.proofs.Turned.{Turning}
 use Rattle.cards.proofs.judge_falling.Given as goal
 
 abbrev pub invariant-loop-k : goal.invariant-loop-k

@@ -1,6 +1,5 @@
 -- Passed over, or else what a card is found in.
 use mathlib.Core.Path.{refl, sym, ◌∙◌}
-use borrow.Author.Rules.{rules}
 use Rattle.laws.proofs.Branches.{cond_yes, cond_rest}
 use Rattle.cards.proofs.line_in.Goals as goal
 

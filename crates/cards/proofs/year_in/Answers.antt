@@ -4,7 +4,6 @@ use mathlib.Core.Path.{◌≡◌, refl, ap, ◌∙◌}
 use mathlib.Core.Bool.{cond}
 use mathlib.Core.List.{List}
 use native.Mathlib.Omega.{arith}
-use borrow.Author.Rules.{rules}
 use lib.Dec.{ltb}
 use lib.ListN.{get_or}
 use Rattle.laws.proofs.Branches.{if_less, if_not_less}
@@ -30,10 +29,10 @@ pub overflow_add-yy : goal.overflow_add-yy
 overflow_add-yy c = omega (arith, c.digit_at.ensures.1, c.digit_at-2.ensures.1)
 
 pub returns-then-yy-lt50 : goal.returns-then-yy-lt50
-returns-then-yy-lt50 c = let k = c in (of_2000s k.args.s.now k.digit_at.ensures.0 k.digit_at-2.ensures.0 c.if-yy-lt50.true, omega (arith, c.if-yy-lt50.true))
+returns-then-yy-lt50 c = (of_2000s c.args.s.now c.digit_at.ensures.0 c.digit_at-2.ensures.0 c.if-yy-lt50.true, omega (arith, c.if-yy-lt50.true))
 
 pub overflow_add-result-2 : goal.overflow_add-result-2
-overflow_add-result-2 c = let k = c in omega (arith, k.digit_at.ensures.1, k.digit_at-2.ensures.1)
+overflow_add-result-2 c = omega (arith, c.digit_at.ensures.1, c.digit_at-2.ensures.1)
 
 pub returns : goal.returns
-returns c = let k = c in (of_1900s k.args.s.now k.digit_at.ensures.0 k.digit_at-2.ensures.0 c.if-yy-lt50.false, omega (arith, k.digit_at.ensures.1, k.digit_at-2.ensures.1))
+returns c = (of_1900s c.args.s.now c.digit_at.ensures.0 c.digit_at-2.ensures.0 c.if-yy-lt50.false, omega (arith, c.digit_at.ensures.1, c.digit_at-2.ensures.1))
