@@ -220,7 +220,7 @@ module _ (x : List ℕ) (b : ℕ) where
     date_place p d (Dead place) e h = absurd (goes_live x fault.goes_on place e)
 
     one_place : (p : ℕ) → Place x b p → fault_place have (length x) (scan x).mode b ≡ p
-    one_place p (at_the_date d) = date_place p d (scan x).mode refl (bad_started p d).known
+    one_place p (at_the_date {p = q} d) = date_place p d (scan x).mode refl (bad_started p d).known
     one_place p (at_the_name n) = let w = second_is p died n in rw (w.0, lt-ltb 0 (length (scan x).pairs) w.1)
     one_place p (at_the_byte f g) = same _ there
       where
