@@ -1,5 +1,4 @@
 use mathlib.Core.Path.{◌≡◌, sym, ap, ◌∙◌}
-use borrow.Author.Rules.{rules}
 use Rattle.answer.proofs.Orders.{refusing_map}
 use Rattle.leap.specs.Leap.{vouched_to}
 use Rattle.pictures.specs.Reading.{read_fields}
@@ -19,26 +18,23 @@ use Rattle.text.proofs.read_text.Goals.{After-asked}
 module _ (c : goal.After-asked) where
   -- an answer with its mark, and the answer where the scale is k
   abbrev marked : TextAnswer → MarkedText
-  marked = marked_text c.args.t1.vouched
+  marked = marked_text c.args.t.vouched
 
   abbrev read : Scale → TextAnswer
-  read k = fields_read c.args.t1 k (read_fields c.args.text.now)
+  read k = fields_read c.args.t k (read_fields c.args.text.now)
 
-  answered : {v : ScaleAnswer} → c.asked.result ≡ v → on_scale (λ why. marked (Refused why)) (λ k. marked (read k)) v ≡ read_text_marked c.args.t1 c.args.scale c.args.text.now
+  answered : {v : ScaleAnswer} → c.asked.result ≡ v → on_scale (λ why. marked (Refused why)) (λ k. marked (read k)) v ≡ read_text_marked c.args.t c.args.scale c.args.text.now
   unfolding read_text
   answered e =
-      then_asked c.args.t1 c.args.scale (λ why. marked (Refused why)) (λ k. marked (read k)) (sym c.asked.ensures ∙ e)
-      ∙ sym (refusing_map marked Refused (scale_tests c.args.t1 c.args.scale) (read (scale_of c.args.scale)))
+      then_asked c.args.t c.args.scale (λ why. marked (Refused why)) (λ k. marked (read k)) (sym c.asked.ensures ∙ e)
+      ∙ sym (refusing_map marked Refused (scale_tests c.args.t c.args.scale) (read (scale_of c.args.scale)))
 
 pub returns-in-On : goal.returns-in-On
 returns-in-On c =
-    let r = c in
-    let k = r in
-    let a = k in
-    let z = k.s-1.given.0.0 in
-    let f = read_fields a.args.text.now in
-    let e : r.read_on.result ≡ fields_read (vouched_to 0 a.args.t1) z f = r.read_on.ensures in
-    c.marked_text.ensures ∙ ap (marked (goal.at.returns-in-On c).After-asked) (e ∙ same_without_month a.args.t1 z f) ∙ answered (goal.at.returns-in-On c).After-asked k.s-1.given.1
+    let a = (goal.at.returns-in-On c).After-asked in
+    let f = read_fields c.args.text.now in
+    let e : c.read_on.result ≡ fields_read (vouched_to 0 c.args.t) c.in-On.s f = c.read_on.ensures in
+    c.marked_text.ensures ∙ ap (marked a) (e ∙ same_without_month c.args.t c.in-On.s f) ∙ answered a c.in-On.is
 
 pub returns-in-Refused : goal.returns-in-Refused
-returns-in-Refused c = let w = c in c.marked_text-in-Refused.ensures ∙ answered (goal.at.returns-in-Refused c).After-asked w.why-1.given.1
+returns-in-Refused c = c.marked_text-in-Refused.ensures ∙ answered (goal.at.returns-in-Refused c).After-asked c.in-Refused.is
