@@ -1,5 +1,4 @@
 -- Test by test.
-use borrow.Author.Rules.{rules}
 use mathlib.Core.Path.{refl, sym, ap, ap₂, subst, ◌∙◌}
 use native.Mathlib.Omega.{arith}
 use lib.Seq.{length-take-le}
@@ -21,8 +20,7 @@ returns-then-s-ne45 c = (cond_yes _ (eq-eqb _ _ c.if-s-ne7.false) (cond_rest _ (
 
 pub slice_bounds-decimal-end : goal.slice_bounds-decimal-end
 slice_bounds-decimal-end c =
-    let s = c in
-    sym (length-take-le 4 s.args.s.now (omega arith))
+    sym (length-take-le 4 c.args.s.now (omega arith))
 
 pub month_number-requires : goal.month_number-requires
 month_number-requires c = (subst (Within 9999) (sym c.decimal-year.ensures) (decimal_within 9999 _), subst (Within 12) (sym c.decimal-month.ensures) (decimal_within 12 _))
@@ -30,8 +28,4 @@ month_number-requires c = (subst (Within 9999) (sym c.decimal-year.ensures) (dec
 pub returns : goal.returns
 unfolding month_given
 returns c =
-    let m = c in
-    let y = m in
-    let b = y in
-    let a = b in
-    (cond_yes _ (eq-eqb _ _ a.if-s-ne7.false) (cond_yes _ (eq-eqb _ _ b.if-s-ne45.false) (c.month_number.ensures.0 ∙ ap₂ month_number y.decimal-year.ensures (m.decimal-month.ensures ∙ ap (decimal_of 12) (rest_is a.args.s.now 5)))), c.month_number.ensures.1)
+    (cond_yes _ (eq-eqb _ _ c.if-s-ne7.false) (cond_yes _ (eq-eqb _ _ c.if-s-ne45.false) (c.month_number.ensures.0 ∙ ap₂ month_number c.decimal-year.ensures (c.decimal-month.ensures ∙ ap (decimal_of 12) (rest_is c.args.s.now 5)))), c.month_number.ensures.1)

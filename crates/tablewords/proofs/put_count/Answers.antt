@@ -1,5 +1,4 @@
 -- A number, and one text or the other.
-use borrow.Author.Rules.{rules}
 use mathlib.Core.Path.{refl}
 use borrow.Author.Tests.{eq-eqb, ne_eqb}
 use Rattle.laws.proofs.Branches.{cond_yes, cond_rest}
@@ -10,15 +9,9 @@ use Rattle.tablewords.proofs.put_count.Goals as goal
 pub returns-then-n-eq1 : goal.returns-then-n-eq1
 unfolding count_text
 returns-then-n-eq1 c =
-    let word = c in
-    let one = word in
-    let number = one in
-    then number.put_unsigned-a.ensures (puts_as (cond_yes _ (eq-eqb _ _ one.if-n-eq1.true) refl) word.put.ensures)
+    then c.put_unsigned-a.ensures (puts_as (cond_yes _ (eq-eqb _ _ c.if-n-eq1.true) refl) c.put.ensures)
 
 pub returns : goal.returns
 unfolding count_text
 returns c =
-    let word = c in
-    let one = word in
-    let number = one in
-    then number.put_unsigned-a.ensures (puts_as (cond_rest _ (ne_eqb _ _ one.if-n-eq1.false) refl) word.put-2.ensures)
+    then c.put_unsigned-a.ensures (puts_as (cond_rest _ (ne_eqb _ _ c.if-n-eq1.false) refl) c.put-2.ensures)

@@ -1,13 +1,6 @@
-use borrow.Author.Rules.{sfits_of}
-use mathlib.Core.Path.{◌≡◌, refl, sym, ap, ◌∙◌}
 use Prim.Native.Nat.{◌-◌, ◌≤◌}
-use native.Mathlib.Omega.{arith}
-use lib.ListN.{length}
-use mir.Facts.{to_z-of_z}
 use Rattle.phrases.specs.Puts.{Puts}
-use Rattle.phrases.proofs.Puts.{puts_none, puts_as, size_into, then}
 use Rattle.tablewords.specs.Words.{first_entries}
-use Rattle.tablewords.proofs.Words.{entries_more}
 use Rattle.tablewords.proofs.put_entries.Given as goal
 
 abbrev pub invariant-loop-k : goal.invariant-loop-k

@@ -1,5 +1,4 @@
 -- One text or the other.
-use borrow.Author.Rules.{rules}
 use mathlib.Core.Path.{refl}
 use borrow.Author.Tests.{eq-eqb, ne_eqb}
 use Rattle.laws.proofs.Branches.{cond_yes, cond_rest}

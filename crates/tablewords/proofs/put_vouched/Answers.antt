@@ -1,5 +1,4 @@
 -- None is given, or four texts one behind another.
-use borrow.Author.Rules.{rules}
 use mathlib.Core.Path.{refl}
 use native.Mathlib.Omega.{arith}
 use Rattle.laws.proofs.Branches.{if_less, if_not_less}
@@ -14,8 +13,4 @@ returns-then-v-lt1 c = puts_as (if_not_less {m = 0} {n = c.args.v} _ (omega arit
 pub returns : goal.returns
 unfolding vouched_words
 returns c =
-    let year = c in
-    let blank = year in
-    let month = blank in
-    let to = month in
-    puts_as (if_less {m = 0} {n = to.args.v} _ (omega arith) refl) (then to.put-a.ensures (then month.put_month-b.ensures (then blank.put-c.ensures year.put_unsigned.ensures)))
+    puts_as (if_less {m = 0} {n = c.args.v} _ (omega arith) refl) (then c.put-a.ensures (then c.put_month-b.ensures (then c.put-c.ensures c.put_unsigned.ensures)))
