@@ -6,7 +6,7 @@ use Rattle.julian.proofs.day_number.Goals as goal
 
 pub truncating_f64_to_u64-requires : goal.truncating_f64_to_u64-requires
 unfolding day_number
-truncating_f64_to_u64-requires c = let y = years c.args.x c.requires in (y.above, y.below)
+truncating_f64_to_u64-requires c = let y = years c.args.x c.requires in record { lower_bound = y.above; upper_bound = y.below }
 
 pub overflow_sub-result : goal.overflow_sub-result
 unfolding day_number

@@ -1,5 +1,5 @@
 -- `julian::pair_of` meets its contract: the code has 0.5 by its bit pattern.
-use Rattle.std.proofs.Common.{◌≡◌, false, negsuc, refl, rules}
+use Rattle.std.proofs.Common.{◌≡◌, false, negsuc, refl}
 use lib.Ieee.{fin, binary64, of_bits}
 use Rattle.julian.specs.Midnight.{midnight_of}
 use Rattle.julian.proofs.pair_of.Goals as goal
