@@ -3,13 +3,13 @@ use borrow.Author.Tests.{eq-eqb, ne_eqb}
 use Rattle.stampwords.proofs.clock_name.Goals as goal
 
 pub returns-then-k-eq0 : goal.returns-then-k-eq0
-returns-then-k-eq0 c = let t = c in rw (eq-eqb t.args.k 0 t.if-k-eq0.true)
+returns-then-k-eq0 c = rw (eq-eqb c.args.k 0 c.if-k-eq0.true)
 
 pub returns-then-k-eq1 : goal.returns-then-k-eq1
-returns-then-k-eq1 c = let t = c in let k = t.args.k in rw (ne_eqb k 0 t.if-k-eq0.false, eq-eqb k 1 t.if-k-eq1.true)
+returns-then-k-eq1 c = let k = c.args.k in rw (ne_eqb k 0 c.if-k-eq0.false, eq-eqb k 1 c.if-k-eq1.true)
 
 pub returns-then-k-eq2 : goal.returns-then-k-eq2
-returns-then-k-eq2 c = let t = c in let k = t.args.k in rw (ne_eqb k 0 t.if-k-eq0.false, ne_eqb k 1 t.if-k-eq1.false, eq-eqb k 2 t.if-k-eq2.true)
+returns-then-k-eq2 c = let k = c.args.k in rw (ne_eqb k 0 c.if-k-eq0.false, ne_eqb k 1 c.if-k-eq1.false, eq-eqb k 2 c.if-k-eq2.true)
 
 pub returns : goal.returns
-returns c = let t = c in let k = t.args.k in rw (ne_eqb k 0 t.if-k-eq0.false, ne_eqb k 1 t.if-k-eq1.false, ne_eqb k 2 t.if-k-eq2.false)
+returns c = let k = c.args.k in rw (ne_eqb k 0 c.if-k-eq0.false, ne_eqb k 1 c.if-k-eq1.false, ne_eqb k 2 c.if-k-eq2.false)

@@ -1,5 +1,4 @@
 -- Name by name.
-use borrow.Author.Rules.{rules}
 use Rattle.digits.specs.Bytes.{ascii}
 use Rattle.stampwords.specs.Stamps.{clock_named}
 use Rattle.phrases.proofs.Parts.{same_told}

@@ -1,5 +1,4 @@
 -- No step, or their number in words.
-use borrow.Author.Rules.{rules}
 use mathlib.Core.Path.{refl, sym, ap, ◌∙◌}
 use borrow.Author.Tests.{eq-eqb, ne_eqb}
 use lib.IntN.{nat_abs}
@@ -13,18 +12,13 @@ use Rattle.stampwords.proofs.put_count.Goals as goal
 pub returns-then-n-eq0 : goal.returns-then-n-eq0
 unfolding count_text
 returns-then-n-eq0 c =
-    let i = c in
-    let m = i.magnitude-n.ensures ∙ ap nat_abs (to_z-of_z i.ranges.z) in
-    puts_as (cond_yes _ (eq-eqb _ 0 (sym m ∙ i.if-n-eq0.true)) refl) c.put.ensures
+    let m = c.magnitude-n.ensures ∙ ap nat_abs (to_z-of_z c.ranges.z) in
+    puts_as (cond_yes _ (eq-eqb _ 0 (sym m ∙ c.if-n-eq0.true)) refl) c.put.ensures
 
 pub returns : goal.returns
 unfolding count_text
 returns c =
-    let w = c in
-    let p = w in
-    let n = p in
-    let i = n in
-    let z = to_z-of_z i.ranges.z in
-    let m = i.magnitude-n.ensures ∙ ap nat_abs z in
-    puts_as (cond_rest _ (ne_eqb _ 0 (λ e. i.if-n-eq0.false (m ∙ e))) refl)
-    (then (puts_as (ap decimal_text m) n.put_unsigned-a.ensures) (then (puts_as (ap plural_text m) p.put_plural-b.ensures) (puts_as (ap step_word z) w.put_step_word.ensures)))
+    let z = to_z-of_z c.ranges.z in
+    let m = c.magnitude-n.ensures ∙ ap nat_abs z in
+    puts_as (cond_rest _ (ne_eqb _ 0 (λ e. c.if-n-eq0.false (m ∙ e))) refl)
+    (then (puts_as (ap decimal_text m) c.put_unsigned-a.ensures) (then (puts_as (ap plural_text m) c.put_plural-b.ensures) (puts_as (ap step_word z) c.put_step_word.ensures)))

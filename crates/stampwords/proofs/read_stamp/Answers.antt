@@ -1,5 +1,4 @@
 -- The clock is asked by its name, and the text is what stands behind it.
-use borrow.Author.Rules.{rules}
 use mathlib.Core.Path.{ap, ap₂, ◌∙◌}
 use Prim.Native.Nat.{ℕ}
 use lib.ListN.{drop}
@@ -12,9 +11,7 @@ use Rattle.stampwords.proofs.read_stamp.Goals as goal
 pub returns : goal.returns
 unfolding stamp_read
 returns c =
-    let k = c in
-    let f = k in
-    let a = f.args in
+    let a = c.args in
     let s = a.given.now in
-    let text = rest_is s f.past-from.result ∙ ap (λ (n : ℕ). drop n s) f.past-from.ensures.0 ∙ past_drops 32 s 0 in
-    c.read_text.ensures ∙ ap₂ (read_text_marked a.t) k.clock_of.ensures text
+    let text = rest_is s c.past-from.result ∙ ap (λ (n : ℕ). drop n s) c.past-from.ensures.0 ∙ past_drops 32 s 0 in
+    c.read_text.ensures ∙ ap₂ (read_text_marked a.t) c.clock_of.ensures text

@@ -1,5 +1,4 @@
 -- Each byte is looked for up to the end.
-use borrow.Author.Rules.{rules}
 use mathlib.Core.Path.{sym, ◌∙◌}
 use native.Mathlib.Nat.{zero-add}
 use native.Mathlib.Omega.{arith}
@@ -17,12 +16,12 @@ pub returns-then-until-name : goal.returns-then-until-name
 unfolding real_name
 returns-then-until-name c =
     let s = c.args.name.now in
-    let u = c.until.ensures.0 in
+    let u = c.until.ensures.value in
     rw (le-leb 1 (length s) (omega arith), ne_eqb (length (before 44 s)) (length s) (λ e. c.if-until-name.true (u ∙ zero-add _ ∙ e)))
 
 pub returns : goal.returns
 unfolding real_name
 returns c =
     let s = c.args.name.now in
-    let u = c.until.ensures.0 in
-    rw (le-leb 1 (length s) (omega arith), eq-eqb (length (before 44 s)) (length s) (sym (zero-add _) ∙ sym u ∙ c.if-until-name.false), c.until-2.ensures.0, zero-add)
+    let u = c.until.ensures.value in
+    rw (le-leb 1 (length s) (omega arith), eq-eqb (length (before 44 s)) (length s) (sym (zero-add _) ∙ sym u ∙ c.if-until-name.false), c.until-2.ensures.value, zero-add)

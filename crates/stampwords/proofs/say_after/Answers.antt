@@ -1,5 +1,4 @@
 -- One second on, on its own clock.
-use borrow.Author.Rules.{rules}
 use mathlib.Core.Path.{ap}
 use Prim.Native.Nat.{ℕ}
 use Rattle.seconds.specs.declared.Move.TheVariants.{On}
@@ -9,6 +8,5 @@ use Rattle.stampwords.proofs.say_after.Goals as goal
 
 pub returns : goal.returns
 returns c =
-    let k = c in
-    let a = k.args in
-    says_as (ap (λ (n : ℕ). moved_reply a.t a.line.now a.given.now (On 1000000) n 0) k.clock_of.ensures) c.say_moved.ensures
+    let a = c.args in
+    says_as (ap (λ (n : ℕ). moved_reply a.t a.line.now a.given.now (On 1000000) n 0) c.clock_of.ensures) c.say_moved.ensures

@@ -1,5 +1,4 @@
 -- The seconds, or the refusal of the stamp at fault.
-use borrow.Author.Rules.{rules}
 use mathlib.Core.Path.{refl, sym, ap, ◌∙◌}
 use Rattle.phrases.proofs.Replies.{says_as}
 use Rattle.stampwords.specs.Spans.{between_answer, between_reply}
@@ -8,23 +7,17 @@ use Rattle.stampwords.proofs.say_between.Goals as goal
 pub returns-in-Lasts : goal.returns-in-Lasts
 unfolding between_reply
 returns-in-Lasts c =
-    let k = c in
-    let s = k in
-    let a = s.args in
-    says_as (ap (between_answer a.a.now a.b.now) (sym k.s-1.given.1 ∙ s.span_between.ensures)) (record { puts = c.put_between.ensures; good = refl })
+    let a = c.args in
+    says_as (ap (between_answer a.a.now a.b.now) (sym c.in-Lasts.is ∙ c.span_between.ensures)) (record { puts = c.put_between.ensures; good = refl })
 
 pub returns-in-First : goal.returns-in-First
 unfolding between_reply
 returns-in-First c =
-    let k = c in
-    let s = k in
-    let a = s.args in
-    says_as (ap (between_answer a.a.now a.b.now) (sym k.why-1.given.1 ∙ s.span_between.ensures)) c.refuse.ensures
+    let a = c.args in
+    says_as (ap (between_answer a.a.now a.b.now) (sym c.in-First.is ∙ c.span_between.ensures)) c.refuse.ensures
 
 pub returns-in-Second : goal.returns-in-Second
 unfolding between_reply
 returns-in-Second c =
-    let k = c in
-    let s = k in
-    let a = s.args in
-    says_as (ap (between_answer a.a.now a.b.now) (sym k.why-in-Second-1.given.1 ∙ s.span_between.ensures)) c.refuse-in-Second.ensures
+    let a = c.args in
+    says_as (ap (between_answer a.a.now a.b.now) (sym c.in-Second.is ∙ c.span_between.ensures)) c.refuse-in-Second.ensures

@@ -1,5 +1,4 @@
 -- Not moved, on the clock that is named.
-use borrow.Author.Rules.{rules}
 use mathlib.Core.Path.{ap}
 use Prim.Native.Nat.{ℕ}
 use Rattle.seconds.specs.declared.Move.TheVariants.{On}
@@ -9,6 +8,5 @@ use Rattle.stampwords.proofs.say_show.Goals as goal
 
 pub returns : goal.returns
 returns c =
-    let k = c in
-    let a = k.args in
-    says_as (ap (λ (n : ℕ). moved_reply a.t a.line.now a.given.now (On 0) n 6) k.clock_named.ensures) c.say_moved.ensures
+    let a = c.args in
+    says_as (ap (λ (n : ℕ). moved_reply a.t a.line.now a.given.now (On 0) n 6) c.clock_named.ensures) c.say_moved.ensures

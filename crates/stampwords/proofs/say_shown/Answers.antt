@@ -1,5 +1,4 @@
 -- What was written in front of the buffer, or why it was not.
-use borrow.Author.Rules.{rules}
 use mathlib.Core.Path.{refl, sym, ap, ap₂, ◌∙◌}
 use mathlib.Core.Bool.{◌||◌}
 use mir.Syntax.{w64}
@@ -16,28 +15,19 @@ use Rattle.stampwords.proofs.say_shown.Goals as goal
 
 pub returns-in-Wrote : goal.returns-in-Wrote
 returns-in-Wrote c =
-    let p = c in
-    let f = p in
-    let o = f in
-    let e = o in
-    let w = e in
-    let s = w in
-    let a = s.args in
+    let a = c.args in
     let x = to_z w64 (of_z w64 a.x) in
-    let wrote = sym (ap (λ r. r.answer) w.write_text-w.ensures.0) ∙ o.written-1.given.1 in
-    let text = text_is a.t x a.k a.places o.written-1.given.0.0 wrote w.write_text-w.ensures.1 f.front-e.ensures.1 in
+    let wrote = sym (ap (λ r. r.answer) c.write_text-w.ensures.0) ∙ c.in-Wrote.is in
+    let text = text_is a.t x a.k a.places c.in-Wrote.n wrote c.write_text-w.ensures.1 c.front-e.ensures.value in
     let beyond = beyond_at a.t (scale_of a.k) x in
-    let mark = e.either-beyond.ensures ∙ ap (λ m. a.mark || m) (ap (λ r. r.beyond) w.write_text-w.ensures.0 ∙ ap (λ v. (marked_written v beyond).beyond) wrote) in
-    says_as (sym (ap (in_words a.t a.line.now x a.k a.places a.mark) wrote) ∙ shown_is a.t x a.k a.places a.line.now a.mark ∙ ap (λ y. shown_reply a.t a.line.now y a.k a.places a.mark) (to_z-of_z s.ranges.x))
-    (record { puts = puts_as (ap₂ (clock_text a.k) text mark) p.put_shown.ensures; good = refl })
+    let mark = c.either-beyond.ensures ∙ ap (λ m. a.mark || m) (ap (λ r. r.beyond) c.write_text-w.ensures.0 ∙ ap (λ v. (marked_written v beyond).beyond) wrote) in
+    says_as (sym (ap (in_words a.t a.line.now x a.k a.places a.mark) wrote) ∙ shown_is a.t x a.k a.places a.line.now a.mark ∙ ap (λ y. shown_reply a.t a.line.now y a.k a.places a.mark) (to_z-of_z c.ranges.x))
+    (record { puts = puts_as (ap₂ (clock_text a.k) text mark) c.put_shown.ensures; good = refl })
 
 pub returns-in-Refused : goal.returns-in-Refused
 returns-in-Refused c =
-    let o = c in
-    let w = o in
-    let s = w in
-    let a = s.args in
+    let a = c.args in
     let x = to_z w64 (of_z w64 a.x) in
-    let not_written = sym (ap (λ r. r.answer) w.write_text-w.ensures.0) ∙ o.written-in-Refused-1.given.1 in
-    says_as (sym (ap (in_words a.t a.line.now x a.k a.places a.mark) not_written) ∙ shown_is a.t x a.k a.places a.line.now a.mark ∙ ap (λ y. shown_reply a.t a.line.now y a.k a.places a.mark) (to_z-of_z s.ranges.x))
+    let not_written = sym (ap (λ r. r.answer) c.write_text-w.ensures.0) ∙ c.in-Refused.is in
+    says_as (sym (ap (in_words a.t a.line.now x a.k a.places a.mark) not_written) ∙ shown_is a.t x a.k a.places a.line.now a.mark ∙ ap (λ y. shown_reply a.t a.line.now y a.k a.places a.mark) (to_z-of_z c.ranges.x))
     c.refuse.ensures

@@ -1,5 +1,4 @@
 -- The two offsets on one clock, as wide numbers.
-use borrow.Author.Rules.{rules}
 use mathlib.Core.Path.{ap₂}
 use borrow.Author.Tests.{eq-eqb, ne_eqb}
 use lib.IntN.{◌-ℤ◌}
@@ -19,7 +18,7 @@ second : (c : goal.After-offset_on-after) → SFits w32 c.offset_on-after.result
 second c = record { sfits = c.offset_on-after.type_inv }
 
 pub returns-then-number : goal.returns-then-number
-returns-then-number c = let n = c in rw (← n.number-2.ensures, ← n.number.ensures, ne_eqb _ _ c.if-number.true)
+returns-then-number c = rw (← c.number-2.ensures, ← c.number.ensures, ne_eqb _ _ c.if-number.true)
 
 pub overflow_cast-before : goal.overflow_cast-before
 overflow_cast-before c = rw (to_z-of_z (first (goal.at.overflow_cast-before c).After-offset_on-before)) (sfits_widen tt (first (goal.at.overflow_cast-before c).After-offset_on-before))
@@ -32,7 +31,5 @@ overflow_sub-result c = rw (widened w64 tt (second (goal.at.overflow_sub-result 
 
 pub returns : goal.returns
 returns c =
-    let e = c in
-    let n = e in
-    rw (widened w64 tt (second (goal.at.returns c).After-offset_on-after), widened w64 tt (first (goal.at.returns c).After-offset_on-before), to_z-of_z (apart_fits (first (goal.at.returns c).After-offset_on-before) (second (goal.at.returns c).After-offset_on-after)), ← n.number-2.ensures, ← n.number.ensures, eq-eqb _ _ e.if-number.false)
+    rw (widened w64 tt (second (goal.at.returns c).After-offset_on-after), widened w64 tt (first (goal.at.returns c).After-offset_on-before), to_z-of_z (apart_fits (first (goal.at.returns c).After-offset_on-before) (second (goal.at.returns c).After-offset_on-after)), ← c.number-2.ensures, ← c.number.ensures, eq-eqb _ _ c.if-number.false)
     (ap₂ (λ x y. Count (y -ℤ x)) c.offset_on-before.ensures c.offset_on-after.ensures)
