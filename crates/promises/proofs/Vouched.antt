@@ -63,7 +63,7 @@ use Rattle.cards.proofs.Storing.{cards_same}
 use Rattle.cards.specs.Card.{last_card_month}
 use Rattle.cards.specs.Writing.{cards_of}
 use Rattle.cards.specs.Promise.{GivesTable as CardsGive, InYears}
-use Rattle.cards.proofs.Promise.{cards, NoMonth as cards_none}
+use Rattle.cards.proofs.Promise.{cards, no_month as cards_none}
 use Rattle.text.specs.declared.TextAnswer.{TextAnswer}
 use Rattle.text.specs.declared.TextAnswer.TheVariants.{Read, Refused as NoText}
 use Rattle.pictures.specs.Reading.{read_fields}
@@ -309,7 +309,7 @@ desk =
 
 module _ (t : Table) (ok : accepted t ≡ true) (full : FullLength t) where
   unvouched_good : Good (without_month t)
-  unvouched_good = record { is_accepted = without_month_lem t t.vouched ok; NoMonth = refl; months_long = full.0; offsets_long = full.1 }
+  unvouched_good = record { is_accepted = without_month_lem t t.vouched ok; no_month = refl; months_long = full.0; offsets_long = full.1 }
 
   block_back : BlockGives Old (block_of t) (without_month t)
   block_back = subst (λ s. BlockGives Old s (without_month t)) (blocks.drops_the_month 0 t) (((blocks.one_to_one Old).gives_the_table_of_the_block (block_of (without_month t)) (without_month t)).1 (record { is_accepted = unvouched_good.is_accepted; full_length = full; month_fits = refl }, refl)).1
