@@ -1,6 +1,6 @@
 -- What `ticks` prints, byte for byte: the first bad line decides, or the header and a line for each second.
 -- Assumes nothing.
-use Rattle.std.specs.Prelude.{ℕ, zero, suc, ◌+◌, Bool, List, [], ◌∷◌, ◌++◌, leb, ℤ, pos, ◌+ℤ◌, ◌-ℤ◌, length}
+use Rattle.std.specs.Prelude.{ℕ, zero, suc, Bool, List, [], ◌∷◌, ◌++◌, leb, ℤ, pos, ◌+ℤ◌, ◌-ℤ◌, length}
 use Rattle.answer.specs.declared.Refusal.{Refusal}
 use Rattle.answer.specs.declared.Refusal.TheVariants.{Shape as SHAPE, Ask as ASK}
 use Rattle.answer.specs.Refusals.{number, refusing}

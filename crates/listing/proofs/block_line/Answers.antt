@@ -1,7 +1,6 @@
 -- In the order of the definition: a line of 1,024 characters has no more than 512 pairs.
 use mathlib.Core.Path.{◌≡◌, refl, sym, ap, ◌∙◌}
 use native.Mathlib.Omega.{arith}
-use borrow.Author.Rules.{rules}
 use borrow.Author.Tests.{le-leb, lt-leb}
 use lib.ListN.{length, take}
 use Rattle.answer.proofs.Orders.{refused, passed}
@@ -18,21 +17,15 @@ returns-then-line-gt1024 c = c.no_block.ensures ∙ refused _ _ (lt-leb _ _ c.if
 pub returns-in_default : goal.returns-in_default
 unfolding block_line
 returns-in_default c =
-    let h = c in
-    let e = h in
-    let s = e.args.line.now in
-    let q = hex_bad s {room = 512} (omega arith) (sym h.hex-h.ensures.0 ∙ c.enum_told-1.given.1) in
-    c.no_block-in_default.ensures ∙ passed _ (le-leb _ _ e.if-line-gt1024.false) (refused _ _ q)
+    let q = hex_bad c.args.line.now {room = 512} (omega arith) (sym c.hex-h.ensures.0 ∙ c.in_default.is) in
+    c.no_block-in_default.ensures ∙ passed _ (le-leb _ _ c.if-line-gt1024.false) (refused _ _ q)
 
 pub returns : goal.returns
 unfolding block_line
 returns c =
-    let k = c in
-    let h = k in
-    let e = h in
-    let s = e.args.line.now in
-    let g = hex_good s {room = 512} (omega arith) (sym h.hex-h.ensures.0 ∙ k.h-1.given.1) in
+    let s = c.args.line.now in
+    let g = hex_good s {room = 512} (omega arith) (sym c.hex-h.ensures.0 ∙ c.in-Is.is) in
     let few = paired_few s in
-    let n : c.front-k.result ≡ length (paired s) = c.front-k.ensures.1 ∙ omega (arith, g.1) in
-    let v : take c.front-k.result h.hex-h.new.1.0 ≡ paired s = rw (n, h.hex-h.ensures.1) (into_front _ s (omega arith) g.0) in
-    c.read_block.ensures ∙ ap read_block v ∙ passed _ (le-leb _ _ e.if-line-gt1024.false) (passed _ g.0 refl)
+    let n : c.front-k.result ≡ length (paired s) = c.front-k.ensures.value ∙ omega (arith, g.1) in
+    let v : take c.front-k.result c.hex-h.new.out ≡ paired s = rw (n, c.hex-h.ensures.1) (into_front _ s (omega arith) g.0) in
+    c.read_block.ensures ∙ ap read_block v ∙ passed _ (le-leb _ _ c.if-line-gt1024.false) (passed _ g.0 refl)

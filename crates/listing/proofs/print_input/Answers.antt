@@ -2,7 +2,6 @@
 use mathlib.Core.Path.{◌≡◌}
 use mathlib.Core.List.{List}
 use Prim.Native.Nat.{ℕ}
-use borrow.Author.Rules.{rules}
 use Rattle.digits.proofs.Bytes.{placed_as}
 use Rattle.lines.specs.Words.{line_of}
 use Rattle.listing.specs.Listing.{from_block, listed}
@@ -13,9 +12,4 @@ unfolding listed
 of_lines s a b c p q r = cc
 
 pub returns : goal.returns
-returns c =
-    let p = c in
-    let third = p in
-    let a = third.args in
-    let e = of_lines a.input.now _ _ _ third.nth_line-a.ensures.0 third.nth_line-b.ensures.0 third.nth_line-c.ensures.0 in
-    placed_as e p.print.ensures
+returns c = placed_as (of_lines c.args.input.now _ _ _ c.nth_line-a.ensures.0 c.nth_line-b.ensures.0 c.nth_line-c.ensures.0) c.print.ensures

@@ -1,9 +1,11 @@
 -- The label has its instant, and the four texts are its line.
-use mathlib.Core.Path.{refl, sym, ap, ◌∙◌}
+use mathlib.Core.Path.{◌≡◌, refl, sym, ap, ◌∙◌}
 use borrow.Author.Rules.{rules}
 use lib.IntN.{pos}
 use lib.ListN.{replicate}
 use lib.Signed.{quot_z}
+use mir.Syntax.{w64}
+use mir.Val.{SFits, to_z, of_z}
 use mir.Facts.{to_z-of_z}
 use Rattle.stamp.specs.declared.InstantAnswer.TheVariants.{At}
 use Rattle.listing.proofs.Row.{not_refused, tai_is, picture_is, row_placed}
@@ -11,25 +13,16 @@ use Rattle.listing.proofs.put_row.Goals as goal
 
 pub returns-in_default : goal.returns-in_default
 returns-in_default c =
-    let i = c in
-    let s = i in
-    absurd (not_refused s.args.t s.args.l s.requires.0 s.requires.1 (sym (ap (λ v. v.answer) i.instant_of-a.ensures) ∙ c.enum_told-1.given.1))
+    absurd (not_refused c.args.t c.args.l c.requires.0 c.requires.1 (sym (ap (λ v. v.answer) c.instant_of-a.ensures) ∙ c.in_default.is))
 
 pub returns : goal.returns
 returns c =
-    let last = c in
-    let number = last in
-    let blank = number in
-    let first = blank in
-    let text = first in
-    let known = text in
-    let i = known in
-    let s = i in
-    let a = s.args in
-    let e = sym (ap (λ v. v.answer) i.instant_of-a.ensures) ∙ known.a-1.given.1 in
-    let lent = to_z-of_z (record { sfits = known.known_told-1.given.0.1 }) in
-    let shown = to_z-of_z (record { sfits = number.seconds.type_inv }) ∙ number.seconds.ensures ∙ ap (λ x. quot_z x (pos 1000000)) lent in
-    row_placed a.t a.l a.out.now a.at s.requires.2
-    (text.write_text.ensures.1 ∙ picture_is a.t a.l s.requires.0 s.requires.1 (e ∙ ap At (sym lent)) (replicate 19 0) refl)
-    (shown ∙ tai_is a.t a.l s.requires.0 s.requires.1 e)
-    first.append-b.ensures blank.append-c.ensures number.append_signed-d.ensures last.append.ensures
+    let a = c.args in
+    let e = sym (ap (λ v. v.answer) c.instant_of-a.ensures) ∙ c.in-At.is in
+    let f : SFits w64 c.in-At.instant = search rules in
+    let lent : to_z w64 (of_z w64 c.in-At.instant) ≡ c.in-At.instant = to_z-of_z {w = w64} f in
+    let shown = to_z-of_z {w = w64} (record { sfits = c.seconds.type_inv }) ∙ c.seconds.ensures ∙ ap (λ x. quot_z x (pos 1000000)) lent in
+    row_placed a.t a.l a.out.now a.at c.requires.2
+    (c.write_text.ensures.1 ∙ picture_is a.t a.l c.requires.0 c.requires.1 (e ∙ ap At (sym lent)) (replicate 19 0) refl)
+    (shown ∙ tai_is a.t a.l c.requires.0 c.requires.1 e)
+    c.append-b.ensures c.append-c.ensures c.append_signed-d.ensures c.append.ensures

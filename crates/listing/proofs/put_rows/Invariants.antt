@@ -1,7 +1,4 @@
-use mathlib.Core.Path.{sym, ap, ◌∙◌}
-use native.Mathlib.Omega.{arith}
-use borrow.Author.Rules.{rules}
-use Rattle.listing.proofs.Rows.{Rowed, rowed_none, rowed_more, rowed_last, rowed_end}
+use Rattle.listing.proofs.Rows.{Rowed}
 use Rattle.listing.proofs.put_rows.Given as goal
 
 abbrev pub invariant-loop-left : goal.invariant-loop-left
