@@ -1,5 +1,4 @@
 -- A line feed behind the reply.
-use borrow.Author.Rules.{rules}
 use Rattle.phrases.proofs.Puts.{then}
 use Rattle.wording.specs.Wording.{answered}
 use Rattle.wording.proofs.answer.Goals as goal

@@ -1,5 +1,4 @@
 -- The two parts around the word.
-use borrow.Author.Rules.{rules}
 use mathlib.Core.Path.{sym, ap₂}
 use lib.Seq.{length-take-le}
 use Rattle.digits.specs.Bytes.{ascii}

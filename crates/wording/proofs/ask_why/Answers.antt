@@ -1,5 +1,4 @@
 -- A number from 1 to 15, or a refusal.
-use borrow.Author.Rules.{rules}
 use mathlib.Core.Path.{refl, sym, ap, subst, ◌∙◌}
 use native.Mathlib.Omega.{arith}
 use borrow.Author.Tests.{le-leb, lt-leb}
@@ -13,25 +12,21 @@ use Rattle.wording.proofs.ask_why.Goals as goal
 pub returns-in_default : goal.returns-in_default
 unfolding ask_why
 returns-in_default c =
-    let d = c in
-    says_as (ap (why_answer c.args.given.now) (sym c.enum_told-1.given.1 ∙ d.decimal.ensures)) c.refuse_as.ensures
+    says_as (ap (why_answer c.args.given.now) (sym c.in_default.is ∙ c.decimal.ensures)) c.refuse_as.ensures
 
 pub returns-then-n-lt1 : goal.returns-then-n-lt1
 unfolding ask_why
 returns-then-n-lt1 c =
-    let n = c in
     let g = c.args.given.now in
-    says_as (cond_rest _ (lt-leb 1 n.n-1.given.0.0 c.if-n-lt1.true) refl ∙ ap (why_answer g) (sym n.n-1.given.1 ∙ c.decimal.ensures)) c.refuse_as-then-n-lt1.ensures
+    says_as (cond_rest _ (lt-leb 1 c.in-Is.n c.if-n-lt1.true) refl ∙ ap (why_answer g) (sym c.in-Is.is ∙ c.decimal.ensures)) c.refuse_as-then-n-lt1.ensures
 
 pub overflow_cast-n : goal.overflow_cast-n
 overflow_cast-n c =
-    let n = c in
-    let h = subst (Within 15) (sym c.decimal.ensures ∙ n.n-1.given.1) (decimal_within 15 c.args.given.now) in
+    let h = subst (Within 15) (sym c.decimal.ensures ∙ c.in-Is.is) (decimal_within 15 c.args.given.now) in
     record { fits = omega arith }
 
 pub returns : goal.returns
 unfolding ask_why
 returns c =
-    let n = c in
     let g = c.args.given.now in
-    says_as (cond_yes _ (le-leb 1 n.n-1.given.0.0 (omega arith)) refl ∙ ap (why_answer g) (sym n.n-1.given.1 ∙ c.decimal.ensures)) (record { puts = c.put_why.ensures; good = refl })
+    says_as (cond_yes _ (le-leb 1 c.in-Is.n (omega arith)) refl ∙ ap (why_answer g) (sym c.in-Is.is ∙ c.decimal.ensures)) (record { puts = c.put_why.ensures; good = refl })

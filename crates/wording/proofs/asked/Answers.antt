@@ -1,5 +1,4 @@
 -- A table is loaded or vouched for, or it stays.
-use borrow.Author.Rules.{rules}
 use mathlib.Core.Path.{◌≡◌, refl, sym, ap, ◌∙◌}
 use mathlib.Core.Bool.{false}
 use mathlib.Core.List.{List}
@@ -27,61 +26,38 @@ no_cards c = sym c.begins_with-3.ensures ∙ c.if-begins_with-3.false
 pub returns-then-begins_with : goal.returns-then-begins_with
 unfolding requested
 returns-then-begins_with c =
-    let l = c in
-    let f = l in
-    let y = f in
-    let a = y.args in
+    let a = c.args in
     loads_as
-    (cond_yes _ (sym y.begins_with.ensures ∙ y.if-begins_with.true) (ap load_block (tail_is 12 a.line.now f.front-from.result f.front-from.ensures.1)))
-    l.load_block.ensures
+    (cond_yes _ (sym c.begins_with.ensures ∙ c.if-begins_with.true) (ap load_block (tail_is 12 a.line.now c.front-from.result c.front-from.ensures.value)))
+    c.load_block.ensures
 
 pub returns-then-begins_with-2 : goal.returns-then-begins_with-2
 unfolding requested
 returns-then-begins_with-2 c =
-    let l = c in
-    let f = l in
-    let y = f in
-    let e1 = y in
-    let a = e1.args in
+    let a = c.args in
     loads_as
-    (cond_rest _ (no_block (goal.at.returns-then-begins_with-2 c).Else-begins_with) (cond_yes _ (sym y.begins_with-2.ensures ∙ y.if-begins_with-2.true) (ap (λ (s : List ℕ). load_kernel s a.readable a.file.now) (tail_is 13 a.line.now f.front-from-then-begins_with-2.result f.front-from-then-begins_with-2.ensures.1))))
-    l.load_kernel.ensures
+    (cond_rest _ (no_block (goal.at.returns-then-begins_with-2 c).Else-begins_with) (cond_yes _ (sym c.begins_with-2.ensures ∙ c.if-begins_with-2.true) (ap (λ (s : List ℕ). load_kernel s a.readable a.file.now) (tail_is 13 a.line.now c.front-from-then-begins_with-2.result c.front-from-then-begins_with-2.ensures.value))))
+    c.load_kernel.ensures
 
 pub returns-then-begins_with-3 : goal.returns-then-begins_with-3
 unfolding requested
 returns-then-begins_with-3 c =
-    let l = c in
-    let f = l in
-    let y = f in
-    let e2 = y in
-    let e1 = e2 in
-    let a = e1.args in
+    let a = c.args in
     loads_as
-    (cond_rest _ (no_block (goal.at.returns-then-begins_with-3 c).Else-begins_with) (cond_rest _ (no_kernel (goal.at.returns-then-begins_with-3 c).Else-begins_with-2) (cond_yes _ (sym y.begins_with-3.ensures ∙ y.if-begins_with-3.true) (ap (λ (s : List ℕ). load_cards s a.readable a.file.now) (tail_is 12 a.line.now f.front-from-then-begins_with-3.result f.front-from-then-begins_with-3.ensures.1)))))
-    l.load_cards.ensures
+    (cond_rest _ (no_block (goal.at.returns-then-begins_with-3 c).Else-begins_with) (cond_rest _ (no_kernel (goal.at.returns-then-begins_with-3 c).Else-begins_with-2) (cond_yes _ (sym c.begins_with-3.ensures ∙ c.if-begins_with-3.true) (ap (λ (s : List ℕ). load_cards s a.readable a.file.now) (tail_is 12 a.line.now c.front-from-then-begins_with-3.result c.front-from-then-begins_with-3.ensures.value)))))
+    c.load_cards.ensures
 
 pub returns-then-begins_with-4 : goal.returns-then-begins_with-4
 unfolding requested
 returns-then-begins_with-4 c =
-    let l = c in
-    let f = l in
-    let y = f in
-    let e3 = y in
-    let e2 = e3 in
-    let e1 = e2 in
-    let a = e1.args in
+    let a = c.args in
     loads_as
-    (cond_rest _ (no_block (goal.at.returns-then-begins_with-4 c).Else-begins_with) (cond_rest _ (no_kernel (goal.at.returns-then-begins_with-4 c).Else-begins_with-2) (cond_rest _ (no_cards (goal.at.returns-then-begins_with-4 c).Else-begins_with-3) (cond_yes _ (sym y.begins_with-4.ensures ∙ y.if-begins_with-4.true) (ap (vouch a.t) (tail_is 8 a.line.now f.front-from-then-begins_with-4.result f.front-from-then-begins_with-4.ensures.1))))))
-    l.vouch.ensures
+    (cond_rest _ (no_block (goal.at.returns-then-begins_with-4 c).Else-begins_with) (cond_rest _ (no_kernel (goal.at.returns-then-begins_with-4 c).Else-begins_with-2) (cond_rest _ (no_cards (goal.at.returns-then-begins_with-4 c).Else-begins_with-3) (cond_yes _ (sym c.begins_with-4.ensures ∙ c.if-begins_with-4.true) (ap (vouch a.t) (tail_is 8 a.line.now c.front-from-then-begins_with-4.result c.front-from-then-begins_with-4.ensures.value))))))
+    c.vouch.ensures
 
 pub returns : goal.returns
 unfolding requested
 returns c =
-    let l = c in
-    let e4 = l in
-    let e3 = e4 in
-    let e2 = e3 in
-    let e1 = e2 in
     loads_as
-    (cond_rest _ (no_block (goal.at.returns c).Else-begins_with) (cond_rest _ (no_kernel (goal.at.returns c).Else-begins_with-2) (cond_rest _ (no_cards (goal.at.returns c).Else-begins_with-3) (cond_rest _ (sym e4.begins_with-4.ensures ∙ e4.if-begins_with-4.false) refl))))
-    (record { says = l.reply-said.ensures; table = refl })
+    (cond_rest _ (no_block (goal.at.returns c).Else-begins_with) (cond_rest _ (no_kernel (goal.at.returns c).Else-begins_with-2) (cond_rest _ (no_cards (goal.at.returns c).Else-begins_with-3) (cond_rest _ (sym c.begins_with-4.ensures ∙ c.if-begins_with-4.false) refl))))
+    (record { says = c.reply-said.ensures; table = refl })

@@ -1,5 +1,4 @@
 -- Behind the word, or at the end.
-use borrow.Author.Rules.{rules}
 use native.Mathlib.Omega.{arith}
 use Rattle.phrases.proofs.Parts.{behind_none, behind_some}
 use Rattle.wording.proofs.behind.Goals as goal

@@ -1,5 +1,4 @@
 -- Too long a line is refused.
-use borrow.Author.Rules.{rules}
 use mathlib.Core.Path.{refl, ap}
 use mathlib.Core.List.{List}
 use Prim.Native.Nat.{ℕ}
@@ -18,7 +17,7 @@ pub returns-then-line-gt1024 : goal.returns-then-line-gt1024
 unfolding judged
 returns-then-line-gt1024 c =
     let s = c.args.line.now in
-    loads_as (cond_rest _ (lt-leb (length s) 1024 c.if-line-gt1024.true) (ap (λ (g : List ℕ). leaving c.args.t (refusing_as 8 long_line g)) (head_is 40 s c.front-k.ensures.1)))
+    loads_as (cond_rest _ (lt-leb (length s) 1024 c.if-line-gt1024.true) (ap (λ (g : List ℕ). leaving c.args.t (refusing_as 8 long_line g)) (head_is 40 s c.front-k.ensures.value)))
     (record { says = c.refuse_as-said.ensures; table = refl })
 
 pub returns : goal.returns

@@ -1,5 +1,4 @@
 -- Nothing, or the numbers of the first and how many more.
-use borrow.Author.Rules.{rules}
 use mathlib.Core.Path.{refl, ap}
 use borrow.Author.Tests.{eq-eqb, ne_eqb}
 use Rattle.laws.proofs.Branches.{cond_yes, cond_rest}

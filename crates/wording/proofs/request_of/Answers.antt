@@ -1,5 +1,4 @@
 -- Word by word.
-use borrow.Author.Rules.{rules}
 use mathlib.Core.Path.{refl, sym, ◌∙◌}
 use Rattle.laws.proofs.Branches.{cond_yes, cond_rest}
 use Rattle.wording.specs.Requests.{request_of}

@@ -1,5 +1,4 @@
 -- Six texts, one behind another.
-use borrow.Author.Rules.{rules}
 use mathlib.Core.Path.{ap}
 use Rattle.digits.specs.Decimals.{decimal_text}
 use Rattle.phrases.proofs.Puts.{puts_as, then}
