@@ -26,9 +26,7 @@ returns-then-out-at-2 c =
 
 pub returns : goal.returns
 returns c =
-    let p = c in
-    let e = p in
-    let a = e.args in
+    let a = c.args in
     let n = hex_length a.bytes.now in
-    same_text a.out.now a.at (a.at + length a.bytes.now * 2) (hex_some a.bytes.now e.if-bytes-eq0.false)
-    (rw n at (room_yes a.out.now a.at (hex_text a.bytes.now) (omega arith) p.put_hex.ensures))
+    same_text a.out.now a.at (a.at + length a.bytes.now * 2) (hex_some a.bytes.now c.if-bytes-eq0.false)
+    (rw n at (room_yes a.out.now a.at (hex_text a.bytes.now) (omega arith) c.put_hex.ensures))

@@ -9,27 +9,23 @@ loop-i-init c =
 
 pub returns-then-a-gt15 : goal.returns-then-a-gt15
 returns-then-a-gt15 c =
-    let l = c in
-    let word = l.args.word.now in
-    count_done word l.loop-i.i l.loop-i.invariant
-    (pair_bad_a word l.loop-i.i (omega arith) c.hex_digit-a.ensures.0 c.hex_digit-b.ensures.0 (omega arith))
+    let word = c.args.word.now in
+    count_done word c.loop-i.i c.loop-i.invariant
+    (pair_bad_a word c.loop-i.i (omega arith) c.hex_digit-a.ensures.0 c.hex_digit-b.ensures.0 (omega arith))
 
 pub returns-then-b-gt15 : goal.returns-then-b-gt15
 returns-then-b-gt15 c =
-    let l = c in
-    let word = l.args.word.now in
-    count_done word l.loop-i.i l.loop-i.invariant
-    (pair_bad_b word l.loop-i.i (omega arith) c.hex_digit-a.ensures.0 c.hex_digit-b.ensures.0 (omega arith) (omega arith))
+    let word = c.args.word.now in
+    count_done word c.loop-i.i c.loop-i.invariant
+    (pair_bad_b word c.loop-i.i (omega arith) c.hex_digit-a.ensures.0 c.hex_digit-b.ensures.0 (omega arith) (omega arith))
 
 pub loop-i-preserved : goal.loop-i-preserved
 loop-i-preserved c =
-    let l = c in
-    let word = l.args.word.now in
-    count_more word l.loop-i.i l.loop-i.invariant (omega arith)
-    (pair_good word l.loop-i.i (omega arith) c.hex_digit-a.ensures.0 c.hex_digit-b.ensures.0 (omega arith) (omega arith))
+    let word = c.args.word.now in
+    count_more word c.loop-i.i c.loop-i.invariant (omega arith)
+    (pair_good word c.loop-i.i (omega arith) c.hex_digit-a.ensures.0 c.hex_digit-b.ensures.0 (omega arith) (omega arith))
 
 pub returns : goal.returns
 returns c =
-    let l = c in
-    let word = l.args.word.now in
-    count_done word l.loop-i.i l.loop-i.invariant (pair_end word l.loop-i.i (omega arith))
+    let word = c.args.word.now in
+    count_done word c.loop-i.i c.loop-i.invariant (pair_end word c.loop-i.i (omega arith))

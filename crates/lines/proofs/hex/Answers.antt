@@ -13,13 +13,10 @@ overflow_mul-count_pairs c =
 
 pub returns-then-count_pairs-word : goal.returns-then-count_pairs-word
 returns-then-count_pairs-word c =
-    let n = c in
-    let a = n.args in
-    not_pairs a.out.now a.word.now (omega arith) n.count_pairs.ensures c.if-count_pairs-word.true
+    let a = c.args in
+    not_pairs a.out.now a.word.now (omega arith) c.count_pairs.ensures c.if-count_pairs-word.true
 
 pub returns : goal.returns
 returns c =
-    let u = c in
-    let e = u in
-    let a = e.args in
-    all_pairs_lem a.out.now a.word.now (omega arith) e.count_pairs.ensures e.if-count_pairs-word.false u.unhex.ensures
+    let a = c.args in
+    all_pairs_lem a.out.now a.word.now (omega arith) c.count_pairs.ensures c.if-count_pairs-word.false c.unhex.ensures

@@ -9,6 +9,5 @@ returns-then-line-held c =
 
 pub returns : goal.returns
 returns c =
-    let p = c in
-    let a = p.args in
-    held_more a.line.now a.held a.piece.now (omega arith) p.front-n.ensures.value p.append.ensures
+    let a = c.args in
+    held_more a.line.now a.held a.piece.now (omega arith) c.front-n.ensures.value c.append.ensures

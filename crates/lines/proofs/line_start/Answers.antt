@@ -18,23 +18,21 @@ loop-done-init c =
 pub loop-done-preserved : goal.loop-done-preserved
 unfolding line_start
 loop-done-preserved c =
-    let l = c in
-    let s = l.args.s.now in
-    let k = l.args.k in
-    let n : suc (k - (l.loop-done.done + 1)) ≡ k - l.loop-done.done = omega arith in
+    let s = c.args.s.now in
+    let k = c.args.k in
+    let n : suc (k - (c.loop-done.done + 1)) ≡ k - c.loop-done.done = omega arith in
     let e = c.past-from.ensures.0 in (
       omega arith,
-      rw add-one (e ∙ ap (past 10 s) l.loop-done.invariant.1),
-      rw e (line_next s l.loop-done.from (k - (l.loop-done.done + 1)) ∙ ap (line_of (drop l.loop-done.from s)) n ∙ l.loop-done.invariant.2),
+      rw add-one (e ∙ ap (past 10 s) c.loop-done.invariant.1),
+      rw e (line_next s c.loop-done.from (k - (c.loop-done.done + 1)) ∙ ap (line_of (drop c.loop-done.from s)) n ∙ c.loop-done.invariant.2),
       omega arith,
     )
 
 pub returns : goal.returns
 unfolding line_of
 returns c =
-    let l = c in
-    let k = l.args.k in
-    let d : l.loop-done.done ≡ k = omega arith in
-    let z : 0 ≡ k - l.loop-done.done = omega arith in
-    let s = l.args.s.now in
-    record { value = l.loop-done.invariant.1 ∙ ap (line_start s) d; s_value = (ap (line_of (drop l.loop-done.from s)) z ∙ l.loop-done.invariant.2, l.loop-done.invariant.3) }
+    let k = c.args.k in
+    let d : c.loop-done.done ≡ k = omega arith in
+    let z : 0 ≡ k - c.loop-done.done = omega arith in
+    let s = c.args.s.now in
+    record { value = c.loop-done.invariant.1 ∙ ap (line_start s) d; s_value = (ap (line_of (drop c.loop-done.from s)) z ∙ c.loop-done.invariant.2, c.loop-done.invariant.3) }

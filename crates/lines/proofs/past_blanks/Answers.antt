@@ -12,18 +12,15 @@ loop-i-init c = (omega arith, refl, λ h. h)
 
 pub returns-then-s-i-ne32 : goal.returns-then-s-i-ne32
 returns-then-s-i-ne32 c =
-    let l = c in
-    let e = leading_stop is_blank l.args.s.now l.loop-i.i (omega arith) (ne_eqb _ _ c.if-s-i-ne32.true) in
-    record { value = omega (arith, l.loop-i.invariant.1, ap length e); upper_bound = (l.loop-i.invariant.2, l.loop-i.invariant.0) }
+    let e = leading_stop is_blank c.args.s.now c.loop-i.i (omega arith) (ne_eqb _ _ c.if-s-i-ne32.true) in
+    record { value = omega (arith, c.loop-i.invariant.1, ap length e); upper_bound = (c.loop-i.invariant.2, c.loop-i.invariant.0) }
 
 pub loop-i-preserved : goal.loop-i-preserved
 loop-i-preserved c =
-    let l = c in
-    let e = leading_more is_blank l.args.s.now l.loop-i.i (omega arith) (eq-eqb _ _ c.if-s-i-ne32.false) in
-    (omega arith, omega (arith, l.loop-i.invariant.1, ap length e), λ h. omega arith)
+    let e = leading_more is_blank c.args.s.now c.loop-i.i (omega arith) (eq-eqb _ _ c.if-s-i-ne32.false) in
+    (omega arith, omega (arith, c.loop-i.invariant.1, ap length e), λ h. omega arith)
 
 pub returns : goal.returns
 returns c =
-    let l = c in
-    let e = leading_none is_blank l.args.s.now l.loop-i.i (omega arith) in
-    record { value = omega (arith, l.loop-i.invariant.1, ap length e); upper_bound = (l.loop-i.invariant.2, l.loop-i.invariant.0) }
+    let e = leading_none is_blank c.args.s.now c.loop-i.i (omega arith) in
+    record { value = omega (arith, c.loop-i.invariant.1, ap length e); upper_bound = (c.loop-i.invariant.2, c.loop-i.invariant.0) }

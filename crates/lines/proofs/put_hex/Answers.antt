@@ -22,16 +22,14 @@ slice_bounds-append-end c =
 
 pub loop-i-preserved : goal.loop-i-preserved
 loop-i-preserved c =
-    let l = c in
-    let a = l.args in
+    let a = c.args in
     let g = c.glyphs-pair in
     let h = pair_size _ g.ensures in
-    let k = placed l.loop-i.out (a.at + l.loop-i.i * 2) g.result (omega arith) c.append.ensures in
-    (omega arith, omega arith, k.text ∙ hex_more a.out.now a.at l.loop-i.i a.bytes.now (omega arith) l.requires l.loop-i.invariant.2 g.ensures)
+    let k = placed c.loop-i.out (a.at + c.loop-i.i * 2) g.result (omega arith) c.append.ensures in
+    (omega arith, omega arith, k.text ∙ hex_more a.out.now a.at c.loop-i.i a.bytes.now (omega arith) c.requires c.loop-i.invariant.2 g.ensures)
 
 pub returns : goal.returns
 returns c =
-    let l = c in
-    let a = l.args in
-    let e : take l.loop-i.i a.bytes.now ≡ a.bytes.now = take_all l.loop-i.i a.bytes.now (omega arith) in
-    l.loop-i.invariant.2 ∙ ap (λ x. place a.out.now a.at (hex_text x)) e
+    let a = c.args in
+    let e : take c.loop-i.i a.bytes.now ≡ a.bytes.now = take_all c.loop-i.i a.bytes.now (omega arith) in
+    c.loop-i.invariant.2 ∙ ap (λ x. place a.out.now a.at (hex_text x)) e

@@ -8,16 +8,12 @@ slice_bounds-hold-end c = c.until-end.ensures.upper_bound.0 (omega arith)
 
 pub returns-then-end-chunk : goal.returns-then-end-chunk
 returns-then-end-chunk c =
-    let h = c in
-    let u = h in
-    let a = u.args in
-    let k = taken_whole a.chunk.now a.from u.front-first.ensures.value u.until-end.ensures.value (u.until-end.ensures.upper_bound.0 (omega arith)) a.line.now a.held h.hold-len.ensures (omega arith) in
+    let a = c.args in
+    let k = taken_whole a.chunk.now a.from c.front-first.ensures.value c.until-end.ensures.value (c.until-end.ensures.upper_bound.0 (omega arith)) a.line.now a.held c.hold-len.ensures (omega arith) in
     record { value = k.0; at_value = k.1 }
 
 pub returns : goal.returns
 returns c =
-    let h = c in
-    let u = h in
-    let a = u.args in
-    let k = taken_part a.chunk.now a.from u.front-first.ensures.value u.until-end.ensures.value (u.until-end.ensures.upper_bound.0 (omega arith)) a.line.now a.held h.hold-len.ensures (omega arith) in
+    let a = c.args in
+    let k = taken_part a.chunk.now a.from c.front-first.ensures.value c.until-end.ensures.value (c.until-end.ensures.upper_bound.0 (omega arith)) a.line.now a.held c.hold-len.ensures (omega arith) in
     record { value = k.0; at_value = k.1 }

@@ -9,27 +9,23 @@ loop-i-init c =
 
 pub returns-then-a-gt15 : goal.returns-then-a-gt15
 returns-then-a-gt15 c =
-    let l = c in
-    let a = l.args in
-    read_done a.word.now a.out.now l.loop-i.out l.loop-i.i l.loop-i.invariant l.requires
-    (pair_bad_a a.word.now l.loop-i.i (omega arith) c.hex_digit-a.ensures.0 c.hex_digit-b.ensures.0 (omega arith))
+    let a = c.args in
+    read_done a.word.now a.out.now c.loop-i.out c.loop-i.i c.loop-i.invariant c.requires
+    (pair_bad_a a.word.now c.loop-i.i (omega arith) c.hex_digit-a.ensures.0 c.hex_digit-b.ensures.0 (omega arith))
 
 pub returns-then-b-gt15 : goal.returns-then-b-gt15
 returns-then-b-gt15 c =
-    let l = c in
-    let a = l.args in
-    read_done a.word.now a.out.now l.loop-i.out l.loop-i.i l.loop-i.invariant l.requires
-    (pair_bad_b a.word.now l.loop-i.i (omega arith) c.hex_digit-a.ensures.0 c.hex_digit-b.ensures.0 (omega arith) (omega arith))
+    let a = c.args in
+    read_done a.word.now a.out.now c.loop-i.out c.loop-i.i c.loop-i.invariant c.requires
+    (pair_bad_b a.word.now c.loop-i.i (omega arith) c.hex_digit-a.ensures.0 c.hex_digit-b.ensures.0 (omega arith) (omega arith))
 
 pub loop-i-preserved : goal.loop-i-preserved
 loop-i-preserved c =
-    let l = c in
-    let a = l.args in
-    read_more a.word.now a.out.now l.loop-i.out l.loop-i.i l.loop-i.invariant l.requires _ (omega arith)
-    (pair_good a.word.now l.loop-i.i (omega arith) c.hex_digit-a.ensures.0 c.hex_digit-b.ensures.0 (omega arith) (omega arith))
+    let a = c.args in
+    read_more a.word.now a.out.now c.loop-i.out c.loop-i.i c.loop-i.invariant c.requires _ (omega arith)
+    (pair_good a.word.now c.loop-i.i (omega arith) c.hex_digit-a.ensures.0 c.hex_digit-b.ensures.0 (omega arith) (omega arith))
 
 pub returns : goal.returns
 returns c =
-    let l = c in
-    let a = l.args in
-    read_done a.word.now a.out.now l.loop-i.out l.loop-i.i l.loop-i.invariant l.requires (pair_end a.word.now l.loop-i.i (omega arith))
+    let a = c.args in
+    read_done a.word.now a.out.now c.loop-i.out c.loop-i.i c.loop-i.invariant c.requires (pair_end a.word.now c.loop-i.i (omega arith))
