@@ -18,13 +18,11 @@ before from k c (suc m) l e = let h : suc m - 1 ≡ m = omega arith in rw (e, h)
 
 pub returns-then-goes_on : goal.returns-then-goes_on
 returns-then-goes_on c =
-    let l = c in
-    sym (this _ _ _ l.loop-m.m (omega arith) (sym c.goes_on.ensures ∙ c.if-goes_on.true)) ∙ l.loop-m.invariant.1
+    sym (this _ _ _ c.loop-m.m (omega arith) (sym c.goes_on.ensures ∙ c.if-goes_on.true)) ∙ c.loop-m.invariant.1
 
-pub loop-m-preserved : goal.loop-m-preserved
+pub loop-m-preserved : goac.loop-m-preserved
 loop-m-preserved c =
-    let l = c in
-    (omega arith, sym (before _ _ _ l.loop-m.m (omega arith) (sym c.goes_on.ensures ∙ c.if-goes_on.false)) ∙ l.loop-m.invariant.1)
+    (omega arith, sym (before _ _ _ c.loop-m.m (omega arith) (sym c.goes_on.ensures ∙ c.if-goes_on.false)) ∙ c.loop-m.invariant.1)
 
 pub returns : goal.returns
 unfolding month_on
