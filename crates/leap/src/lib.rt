@@ -166,6 +166,7 @@ pub fn vouched_right(last: u32, vouched: u32) -> bool
 }
 
 // The check. The arrays are lent: a table by value is copied.
+#[tactic(auto, unfolding(crate::specs::Leap::accepted))]
 pub fn is_accepted_in<'a>(
     count: usize,
     months: &'a [u32; 64],

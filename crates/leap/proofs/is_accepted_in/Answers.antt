@@ -15,14 +15,6 @@ use Rattle.leap.proofs.is_accepted_in.Goals.{After-all_right}
 placed : (c : goal.After-all_right) → let a = c.args in c.all_right.result ≡ all_below (place_right (vouched_to a.vouched (tabled a.count a.months.now a.offsets.now))) 64
 placed c = c.all_right.ensures ∙ same_places _ _ 64
 
-pub returns-then-count-lt1 : goal.returns-then-count-lt1
-unfolding accepted
-returns-then-count-lt1 c = and_no _ (lt-leb 1 c.args.count (omega arith))
-
-pub returns-then-count-gt64 : goal.returns-then-count-gt64
-unfolding accepted
-returns-then-count-gt64 c = and_rest (le-leb 1 c.args.count (omega arith)) (and_no _ (lt-leb c.args.count 64 (omega arith)))
-
 pub returns-then-not-all_right : goal.returns-then-not-all_right
 unfolding accepted
 returns-then-not-all_right c =
