@@ -20,7 +20,7 @@ pub returns-then-goes_on : goal.returns-then-goes_on
 returns-then-goes_on c =
     sym (this _ _ _ c.loop-m.m (omega arith) (sym c.goes_on.ensures ∙ c.if-goes_on.true)) ∙ c.loop-m.invariant.1
 
-pub loop-m-preserved : goac.loop-m-preserved
+pub loop-m-preserved : goal.loop-m-preserved
 loop-m-preserved c =
     (omega arith, sym (before _ _ _ c.loop-m.m (omega arith) (sym c.goes_on.ensures ∙ c.if-goes_on.false)) ∙ c.loop-m.invariant.1)
 
