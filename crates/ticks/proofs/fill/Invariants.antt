@@ -1,9 +1,6 @@
 use Prim.Native.Nat.{◌-◌, ◌≤◌}
 use mathlib.Core.Path.{◌≡◌}
-use borrow.Author.Rules.{rules}
-use native.Mathlib.Omega.{arith}
 use lib.ListN.{length}
-use lib.ListN.{length-set}
 use Rattle.ticks.proofs.fill.Given as goal
 
 abbrev pub invariant-loop-n : goal.invariant-loop-n
