@@ -39,6 +39,9 @@ module _ (kind : ℕ → Bool) (s : List ℕ) (i : ℕ) where
   unfolding leading
   leading_none h = rw (drop_of_length-le s h)
 
+pub blanks_stop : (s : List ℕ) (i : ℕ) → i < length s → (get_or s i 0 ≡ 32 → ⊥) → leading is_blank (drop i s) ≡ []
+blanks_stop s i h e = leading_stop is_blank s i h (ne_eqb _ _ e)
+
 -- the bytes before the first b are the first ones
 pub before_front : (b : ℕ) (s : List ℕ) → take (length (before b s)) s ≡ before b s
 unfolding before

@@ -12,6 +12,7 @@ ghost use Rattle.lines.specs.Pairs.{nibble, paired, hex_of, hex_into, glyph as P
 use digits::Number;
 
 // The index of the first b from `from` on; the end, or `from` itself past that.
+#[tactic(auto, using(crate::proofs::Words::before_here, crate::proofs::Words::before_more, crate::proofs::Words::before_end))]
 pub fn until(s: &[u8], from: usize, b: u8) -> usize
     ensures value { result ≡ from + length (before b (drop from s.now)) }
     ensures upper_bound { (from ≤ length s.now → result ≤ length s.now) × (from ≤ result) }
@@ -27,6 +28,7 @@ pub fn until(s: &[u8], from: usize, b: u8) -> usize
 }
 
 // The index behind the blanks from `from` on; the end, or `from` itself past that.
+#[tactic(auto, using(crate::proofs::Words::leading_more, crate::proofs::Words::blanks_stop, crate::proofs::Words::leading_none))]
 pub fn past_blanks(s: &[u8], from: usize) -> usize
     ensures value { result ≡ from + length (leading is_blank (drop from s.now)) }
     ensures upper_bound { (from ≤ length s.now → result ≤ length s.now) × (from ≤ result) }
@@ -121,6 +123,7 @@ pub fn take_line(chunk: &[u8], from: usize, line: &mut [u8], held: usize) -> Cut
 // ---- hex in
 
 // The value of a hex digit of either case; 16 for any other byte.
+#[tactic(auto, unfolding(crate::specs::Pairs::nibble))]
 pub fn hex_digit(b: u8) -> u8
     ensures { (result ≡ nibble b) × (result ≤ 16) }
 {
@@ -200,6 +203,7 @@ pub fn hex(word: &[u8], out: &mut [u8]) -> Number
 
 // ---- hex out
 
+#[tactic(auto, unfolding(crate::specs::Pairs::glyph))]
 fn glyph(d: u8) -> u8
     requires { d < 16 }
     ensures { result ≡ Pairs·glyph d }
