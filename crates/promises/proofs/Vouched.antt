@@ -26,7 +26,7 @@ use Rattle.leap.proofs.Vouched.{vouched, without_month_lem}
 use Rattle.leap.proofs.Entries.{entries_same}
 use Rattle.labels.specs.declared.Label.{Label}
 use Rattle.labels.specs.declared.Reading.{Reading}
-use Rattle.labels.specs.Labels.{label, at, month_of, last_minute, minute_in, real_year, real_month, real_day, real_clock, has_second}
+use Rattle.labels.specs.Labels.{at, month_of, last_minute, minute_in, real_year, real_month, real_day, real_clock, has_second}
 use Rattle.labels.specs.Seconds.{axis_at}
 use Rattle.stamp.specs.declared.Scale.{Scale}
 use Rattle.stamp.specs.declared.Scale.TheVariants.{Utc, Tai, Tdt, Gps}
