@@ -62,6 +62,7 @@ pub fn append(out: &mut [u8], at: usize, text: &[u8]) -> usize
 
 // ---- decimals in
 
+#[tactic(auto, unfolding(crate::specs::Decimals::is_digit))]
 pub fn is_digit(b: u8) -> bool
     ensures { result ≡ is_digit b }
 {

@@ -53,6 +53,7 @@ fn digits_of(bits: u64) -> u64
 }
 
 // A whole number and a half, of either sign: the bit of one half is set and none below it.
+#[tactic(auto, using(crate::proofs::Halves::low, crate::proofs::Halves::high))]
 pub fn is_half(x: f64) -> bool
     ensures { result ≡ is_half x }
 {
@@ -88,6 +89,7 @@ fn nearest_in(bits: u64, field: u64, factor: u64, shift: u64) -> u64
 }
 
 // The sign is not looked at. 0 where the size is not below 1, and for a whole that is not of this form.
+#[tactic(auto, using(crate::proofs::Pattern::under_one, crate::proofs::Pattern::over_one, crate::proofs::Fraction::nearest_at_lem), unfolding(crate::specs::Fraction::nearest_at))]
 pub fn nearest_of(x: f64, factor: u64, shift: u64) -> u64
     ensures { result ≡ nearest_at factor shift x }
 {

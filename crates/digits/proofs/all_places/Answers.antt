@@ -1,7 +1,6 @@
 -- Nine places at once, each in front of what is below it.
 use Prim.Native.Nat.{ℕ, ◌/◌, ◌%◌}
 use mathlib.Core.Path.{ap, ◌∙◌}
-use borrow.Author.Rules.{rules}
 use Rattle.laws.specs.Placed.{place}
 use Rattle.digits.specs.Decimals.{digits_of}
 use Rattle.digits.proofs.Taking.{zeros_before, by_nines}

@@ -1,7 +1,6 @@
 -- No room, or the text placed.
 use native.Mathlib.Omega.{arith}
 use Rattle.digits.proofs.Bytes.{room_yes, room_no}
-use borrow.Author.Rules.{rules}
 use Rattle.digits.proofs.append.Goals as goal
 
 pub returns-then-out-at : goal.returns-then-out-at

@@ -5,7 +5,6 @@ use native.Mathlib.Omega.{arith}
 use lib.IntN.{nat_abs}
 use lib.ListN.{length, drop, set, length-set}
 use mir.Facts.{to_z-of_z}
-use borrow.Author.Rules.{rules}
 use Rattle.digits.specs.Decimals.{decimal_text, signed_text}
 use Rattle.digits.proofs.Bytes.{same_text, rest_is}
 use Rattle.digits.proofs.Decimals.{sign_is, text_low, text_high, put_before}

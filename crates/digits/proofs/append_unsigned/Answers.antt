@@ -1,6 +1,5 @@
 -- The text that ends the array, appended.
 use mathlib.Core.Path.{◌∙◌}
-use borrow.Author.Rules.{rules}
 use Rattle.digits.proofs.Bytes.{same_text, rest_is}
 use Rattle.digits.proofs.append_unsigned.Goals as goal
 

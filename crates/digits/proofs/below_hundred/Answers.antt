@@ -3,7 +3,6 @@ use Prim.Native.Nat.{ℕ}
 use mathlib.Core.List.{List, ◌++◌}
 use mathlib.Core.Path.{sym, ap, ◌∙◌}
 use native.Mathlib.Nat.{mod-eq_of_lt}
-use borrow.Author.Rules.{rules}
 use Rattle.digits.specs.Decimals.{digits_of}
 use Rattle.digits.proofs.Taking.{zeros_before, next, last}
 use Rattle.digits.proofs.below_hundred.Goals as goal

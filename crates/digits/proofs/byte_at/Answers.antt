@@ -1,7 +1,6 @@
 -- Inside, or past the end.
 use mathlib.Core.Path.{sym}
 use lib.ListN.{get_or-eq_default}
-use borrow.Author.Rules.{rules}
 use Rattle.digits.proofs.byte_at.Goals as goal
 
 pub returns : goal.returns

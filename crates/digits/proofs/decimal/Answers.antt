@@ -1,11 +1,7 @@
 -- What the digits passed give, and those to come, is the whole.
-use mathlib.Core.Path.{◌≡◌, ◌∙◌}
-use Prim.Native.Nat.{◌-◌, ◌≤◌}
+use mathlib.Core.Path.{◌∙◌}
 use native.Mathlib.Omega.{arith}
-use borrow.Author.Rules.{rules}
-use lib.ListN.{length, drop}
-use Rattle.digits.specs.Decimals.{decimal_of}
-use Rattle.digits.proofs.Decimals.{judged, decimal_none, decimal_some, judged_end, turn_other, turn_more, turn_large}
+use Rattle.digits.proofs.Decimals.{decimal_none, decimal_some, judged_end, turn_other, turn_more, turn_large}
 use Rattle.laws.proofs.Branches.{fails, holds}
 use Rattle.digits.proofs.decimal.Goals as goal
 

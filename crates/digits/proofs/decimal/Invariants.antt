@@ -1,11 +1,8 @@
-use mathlib.Core.Path.{◌≡◌, ◌∙◌}
+use mathlib.Core.Path.{◌≡◌}
 use Prim.Native.Nat.{◌-◌, ◌≤◌}
-use native.Mathlib.Omega.{arith}
-use borrow.Author.Rules.{rules}
 use lib.ListN.{length, drop}
 use Rattle.digits.specs.Decimals.{decimal_of}
-use Rattle.digits.proofs.Decimals.{judged, decimal_none, decimal_some, judged_end, turn_other, turn_more, turn_large}
-use Rattle.laws.proofs.Branches.{fails, holds}
+use Rattle.digits.proofs.Decimals.{judged}
 use Rattle.digits.proofs.decimal.Given as goal
 
 abbrev pub invariant-loop-i : goal.invariant-loop-i

@@ -1,7 +1,6 @@
 -- A digit less that of zero, or 0.
 use mathlib.Core.Path.{sym, ◌∙◌}
 use native.Mathlib.Omega.{arith}
-use borrow.Author.Rules.{rules}
 use Rattle.digits.proofs.Decimals.{digit_range, value_digit, value_other}
 use Rattle.digits.proofs.digit_value.Goals as goal
 

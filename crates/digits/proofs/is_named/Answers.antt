@@ -5,7 +5,6 @@ use lib.Dec.{eqb}
 use lib.ListN.{get_or}
 use borrow.Author.Tests.{eq-eqb, ne_eqb}
 use Rattle.laws.proofs.Branches.{and_no, and_rest}
-use borrow.Author.Rules.{rules}
 use Rattle.digits.proofs.is_named.Goals as goal
 
 and_last : (t : Bool) → t ≡ (t && true)

@@ -2,7 +2,6 @@
 use native.Mathlib.Omega.{arith}
 use mir.Facts.{to_z-of_z}
 use Rattle.digits.proofs.Decimals.{sign_is, size_low, size_high, flipped_fits, flipped_back}
-use borrow.Author.Rules.{rules}
 use Rattle.digits.proofs.magnitude.Goals as goal
 
 pub overflow_sub-result : goal.overflow_sub-result

@@ -1,6 +1,4 @@
 -- None of the months passed has the name.
-use Prim.Native.Nat.{◌≤◌}
-use mathlib.Core.List.{[], ◌∷◌}
 use mathlib.Core.Path.{◌≡◌, refl, sym, ◌∙◌}
 use native.Mathlib.Omega.{arith}
 use borrow.Author.Rules.{rules}

@@ -1,10 +1,7 @@
 use Prim.Native.Nat.{◌≤◌}
 use mathlib.Core.List.{[], ◌∷◌}
-use mathlib.Core.Path.{◌≡◌, refl, sym, ◌∙◌}
-use native.Mathlib.Omega.{arith}
-use borrow.Author.Rules.{rules}
+use mathlib.Core.Path.{◌≡◌}
 use Rattle.digits.specs.Months.{among_months, month_named}
-use Rattle.digits.proofs.Months.{named_yes, named_no}
 use Rattle.digits.proofs.month_named.Given as goal
 
 abbrev pub invariant-loop-month : goal.invariant-loop-month

@@ -1,5 +1,4 @@
 -- All powers are taken away, from what nine digits hold.
-use borrow.Author.Rules.{rules}
 use Rattle.digits.proofs.Taking.{next, last}
 use Rattle.digits.proofs.nine_digits.Goals as goal
 

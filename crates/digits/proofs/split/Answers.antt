@@ -1,8 +1,7 @@
 -- So many pieces of 1000000000 * 2 ^ k, and what is left.
-use Prim.Native.Nat.{ℕ, ◌+◌, ◌-◌, ◌*◌, ◌≤◌, ◌<◌}
+use Prim.Native.Nat.{ℕ, ◌+◌, ◌-◌, ◌*◌, ◌<◌}
 use mathlib.Core.Path.{◌≡◌, sym, ap, ◌∙◌}
 use native.Mathlib.Omega.{arith}
-use borrow.Author.Rules.{rules}
 use Rattle.digits.proofs.Taking.{piece, shifted, pieces_few, double, halves, one_off, quotient, remainder}
 use Rattle.digits.proofs.split.Goals as goal
 use Rattle.digits.proofs.split.Goals.{After-loop-k}

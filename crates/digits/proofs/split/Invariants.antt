@@ -1,8 +1,6 @@
-use Prim.Native.Nat.{ℕ, ◌+◌, ◌-◌, ◌*◌, ◌≤◌, ◌<◌}
-use mathlib.Core.Path.{◌≡◌, sym, ap, ◌∙◌}
-use native.Mathlib.Omega.{arith}
-use borrow.Author.Rules.{rules}
-use Rattle.digits.proofs.Taking.{piece, shifted, pieces_few, double, halves, one_off, quotient, remainder}
+use Prim.Native.Nat.{◌+◌, ◌*◌, ◌≤◌, ◌<◌}
+use mathlib.Core.Path.{◌≡◌}
+use Rattle.digits.proofs.Taking.{piece}
 use Rattle.digits.proofs.split.Given as goal
 
 abbrev pub invariant-loop-k : goal.invariant-loop-k

@@ -1,12 +1,6 @@
-use Prim.Native.Nat.{ℕ, suc, ◌+◌, ◌-◌, ◌/◌, ◌^◌, ◌≤◌, ◌<◌}
-use mathlib.Core.Path.{◌≡◌, ap, ◌∙◌}
-use native.Mathlib.Nat.{pow-succ', pow-le-pow_right}
-use native.Mathlib.Numerals.{add-one}
-use native.Mathlib.Omega.{arith}
-use lib.Dec.{lit<}
-use borrow.Author.Rules.{rules}
+use Prim.Native.Nat.{◌+◌, ◌-◌, ◌/◌, ◌^◌, ◌≤◌}
+use mathlib.Core.Path.{◌≡◌}
 use Rattle.digits.specs.Decimals.{width_of}
-use Rattle.digits.proofs.Decimals.{width_one, width_more, width_last, few_tens, more_tens, next_tens}
 use Rattle.digits.proofs.width.Given as goal
 
 abbrev pub invariant-loop-k : goal.invariant-loop-k

@@ -1,5 +1,5 @@
 -- `fraction::fraction_of` meets its contract: both numbers are doubles, rounded.
-use Rattle.std.proofs.Common.{ap₂, rules}
+use Rattle.std.proofs.Common.{ap₂}
 use lib.Ieee.{binary64, div}
 use Rattle.fraction.specs.Fraction.{fraction_of}
 use Rattle.fraction.proofs.fraction_of.Goals as goal

@@ -1,5 +1,5 @@
 -- `fraction::nearest_in` meets its contract: `proofs/Reading.antt` says what its arithmetic on the bit pattern comes to.
-use Rattle.std.proofs.Common.{ℕ, ◌+◌, ◌-◌, ◌/◌, ◌^◌, ◌<◌, ap, ◌∙◌, arith, rules}
+use Rattle.std.proofs.Common.{ℕ, ◌+◌, ◌-◌, ◌/◌, ◌^◌, ◌<◌, ap, ◌∙◌, arith}
 use Rattle.fraction.proofs.Reading.{product, rounded, high_few, low_few, halves_few, none, some}
 use Rattle.fraction.proofs.nearest_in.Goals as goal
 use Rattle.fraction.proofs.nearest_in.Goals.{After-digits_of-digits}

@@ -1,5 +1,6 @@
 use mathlib.Core.Path.{◌≡◌, sym, ap, ap₂, ◌∙◌}
 use mathlib.Core.Bool.{Bool}
+use native.Mathlib.Omega.{arith}
 use borrow.Author.Tests.{le-leb}
 use lib.IntN.{ℤ}
 use Rattle.laws.proofs.Machine.{read1}
@@ -35,7 +36,7 @@ module _ (c : goal.After-stamp_of_in-marked) where
 
     -- what the call answers and leaves
     answers : {A : Type 0} (refuse : Refusal → A) (x : A) → as_written refuse x v ≡ refusing refuse (write_tests c.args.t c.args.instant c.args.picture c.args.scale c.args.digits) x
-    answers refuse x = write_as refuse x c.args.t c.args.instant c.args.picture c.args.scale c.args.digits (le-leb _ _ c.if-picture-gt2.false) (le-leb _ _ c.if-digits-gt6.false) stamped
+    answers refuse x = write_as refuse x c.args.t c.args.instant c.args.picture c.args.scale c.args.digits (le-leb c.args.picture 2 (omega arith)) (le-leb c.args.digits 6 (omega arith)) stamped
 
 pub fields_of-requires : goal.fields_of-requires
 fields_of-requires c = stamp_plain c.args.t c.args.scale c.args.instant (sym (stamped (goal.at.fields_of-requires c).After-stamp_of_in-marked c.in-Stamped.is))
