@@ -31,6 +31,7 @@ pub enum YearDate {
 
 // ---- months
 
+#[tactic(auto, unfolding(months::specs::Months::leap_year))]
 fn is_leap(year: u32) -> bool
     ensures { result ≡ leap_year year }
 {

@@ -6,35 +6,14 @@ use Rattle.months.specs.Months.{days_before}
 use Rattle.calendar.proofs.Guess.{guess, guess_high, guessed, guessed_next, start_before}
 use Rattle.calendar.proofs.month_of_day.Goals as goal
 
-pub overflow_add-next : goal.overflow_add-next
-overflow_add-next c = search rules
-
-pub overflow_mul-next : goal.overflow_mul-next
-overflow_mul-next c = search rules
-
-pub overflow_cast-next : goal.overflow_cast-next
-overflow_cast-next c = search rules
-
-pub days_before-start-requires : goal.days_before-start-requires
-days_before-start-requires c = search rules
-
-pub month_length-requires : goal.month_length-requires
-month_length-requires c = search rules
-
 pub returns-then-start-d : goal.returns-then-start-d
 returns-then-start-d c = cc (guessed c.args.day (search rules))
 
 pub overflow_sub-next : goal.overflow_sub-next
 overflow_sub-next c = omega (arith, guess_high c.args.day (search rules))
 
-pub month_length-length-requires : goal.month_length-length-requires
-month_length-length-requires c = search rules
-
 pub overflow_sub-result : goal.overflow_sub-result
 overflow_sub-result c = omega (arith, guess_high c.args.day (search rules))
-
-pub overflow_cast-result : goal.overflow_cast-result
-overflow_cast-result c = search rules
 
 pub overflow_sub-result-2 : goal.overflow_sub-result-2
 overflow_sub-result-2 c = omega (arith, start_before c.args.day (search rules))

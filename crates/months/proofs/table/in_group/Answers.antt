@@ -1,7 +1,6 @@
 use Prim.Native.Nat.{◌/◌, ◌%◌, ◌≤◌}
 use mathlib.Core.Path.{◌≡◌}
 use native.Mathlib.Omega.{arith}
-use borrow.Author.Rules.{rules}
 use Rattle.months.proofs.Rows.{none_below, in_row_arm}
 use Rattle.months.proofs.table.in_group.Goals as goal
 
