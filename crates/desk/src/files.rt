@@ -1,5 +1,5 @@
 // A line answered, with the file that it names.
-ghost use Rattle.std.specs.Prelude.{◌≤◌, length};
+ghost use Rattle.std.specs.Prelude.{◌≡◌, ◌≤◌, length};
 
 use leap::Table;
 use std::fs::File;
@@ -15,7 +15,9 @@ pub struct Got {
 }
 
 // What a file gives that cannot be read.
-fn unread() -> Got {
+fn unread() -> Got
+    ensures { result.size ≡ 0 }
+{
     Got {
         size: 0,
         fine: false,

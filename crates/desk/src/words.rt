@@ -14,14 +14,12 @@ fn is_there(rt: &HostRuntime, i: usize) -> bool {
 
 // How many words there are, the program's name among them.
 pub(crate) fn arg_count(rt: &HostRuntime) -> usize {
-    let mut i = 0;
-    while i < usize::MAX {
+    for i in 0..usize::MAX {
         if !is_there(rt, i) {
             return i;
         }
-        i += 1;
     }
-    i
+    usize::MAX
 }
 
 // The bytes of word i; of one that is longer than the buffer its first ones are there.
