@@ -57,6 +57,7 @@ fn past_sign(s: &[u8], i: usize) -> usize
     i
 }
 
+#[tactic(auto, using(crate::proofs::Fields::one_there, crate::proofs::Fields::one_not, crate::proofs::Fields::there))]
 fn past_point(s: &[u8], i: usize) -> usize
     requires { i ≤ length s.now }
     ensures { BehindOne is_point s.now i result }
