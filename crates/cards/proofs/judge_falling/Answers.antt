@@ -4,7 +4,6 @@ use mathlib.Core.Path.{refl, sym, ap, subst, ◌∙◌}
 use mathlib.Core.List.{reverse}
 use lib.IntN.{pos}
 use lib.ListN.{set, take, get_or}
-use native.Mathlib.Omega.{arith}
 use borrow.Author.Rules.{rules}
 use mir.Facts.{to_z-of_z}
 use mir.Syntax.{w32}
@@ -18,33 +17,6 @@ use Rattle.cards.proofs.judge_falling.Goals as goal
 
 pub loop-k-init : goal.loop-k-init
 loop-k-init c = record { months_are = refl; offsets_are = refl }
-
-pub offset_bounds-months-count : goal.offset_bounds-months-count
-offset_bounds-months-count c = omega (arith, c.requires)
-
-pub bounds-months-count : goal.bounds-months-count
-bounds-months-count c = omega (arith, c.requires)
-
-pub offset_bounds-m-k : goal.offset_bounds-m-k
-offset_bounds-m-k c = omega (arith, c.requires)
-
-pub bounds-m-k : goal.bounds-m-k
-bounds-m-k c = omega (arith, c.requires)
-
-pub offset_bounds-offsets-count : goal.offset_bounds-offsets-count
-offset_bounds-offsets-count c = omega (arith, c.requires)
-
-pub bounds-offsets-count : goal.bounds-offsets-count
-bounds-offsets-count c = omega (arith, c.requires)
-
-pub offset_bounds-o-k : goal.offset_bounds-o-k
-offset_bounds-o-k c = omega (arith, c.requires)
-
-pub bounds-o-k : goal.bounds-o-k
-bounds-o-k c = omega (arith, c.requires)
-
-pub overflow_add-k : goal.overflow_add-k
-overflow_add-k c = omega (arith, c.requires)
 
 pub loop-k-preserved : goal.loop-k-preserved
 loop-k-preserved c = let a = c.args in
