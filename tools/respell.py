@@ -7,6 +7,7 @@ Where a lemma or a label would fall together with a definition, it ends in `_lem
 would have its function's name. Names that a library declares keep their spelling."""
 import collections
 import glob
+import os
 import re
 import sys
 
@@ -116,6 +117,8 @@ def turned(text, new, labels, theirs, rust=False):
 
 
 def main():
+    if os.path.exists("docs/PORT.md"):
+        sys.exit("respell.py: this repository is in today's spelling already (docs/PORT.md).")
     antt = sorted(glob.glob("crates/*/specs/*.antt") + glob.glob("crates/*/proofs/**/*.antt", recursive=True))
     for f in antt:
         table = next((t for p, t in FIRST.items() if f.startswith(p)), None)
@@ -145,8 +148,6 @@ def main():
             out.append(line)
         open(f, "w", encoding="utf-8").write("\n".join(out))
     for f in ["README.md", "CHANGELOG.md"] + sorted(glob.glob("docs/**/*.md", recursive=True)):
-        if f == "docs/PORT.md":
-            continue
         text = open(f, encoding="utf-8").read()
         open(f, "w", encoding="utf-8").write(re.sub(r"`([^`\s]+)`", lambda m: "`" + ".".join(new.get(p, p) for p in m.group(1).split(".")) + "`", text))
     if "--list" in sys.argv:
