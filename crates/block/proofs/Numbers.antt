@@ -86,7 +86,7 @@ zero_byte k b s {n} {size} e z = go (begins k b s n size e) z
   where
     go : {n size : ℕ} → Begins k b s n size → n ≡ 0 → b ≡ 0
     go (only l) z = z
-    go (below l q some) z = absurd (some (omega arith))
+    go (below {high} {size} l q some) z = absurd (some (omega arith))
 
 -- a number that is read is of at most k groups, and within the list
 pub record Within (k : ℕ) (s : List ℕ) (n size : ℕ) : Type 0 where
