@@ -1,11 +1,11 @@
 -- The pair that is written for an instant, and what a pair is read as, each with the reading that stands for the instant.
 -- Assumes nothing.
-use Rattle.std.proofs.Common.{◌≡◌, ℕ, ◌+◌, ◌*◌, ◌<◌, ◌≤◌, true, false, T, leb, [], ◌∷◌, ◌++◌, ℤ, sym, refl, ap, ◌∙◌, subst, ap₂, arith, ltb-true, lt-ltb, le-leb, leb-true}
+use Rattle.std.proofs.Common.{◌≡◌, ℕ, ◌+◌, ◌<◌, ◌≤◌, true, false, T, leb, [], ◌∷◌, ◌++◌, ℤ, sym, refl, ap, ◌∙◌, subst, ap₂, arith, ltb-true, lt-ltb, le-leb, leb-true}
 use Rattle.laws.proofs.Branches.{cond_yes, cond_rest}
 use Rattle.laws.proofs.Cases.{by_test, and_l, and_r, join}
 use Rattle.answer.specs.declared.Refusal.{Refusal}
 use Rattle.answer.specs.declared.Refusal.TheVariants.{Range as RANGE}
-use Rattle.answer.proofs.Orders.{none_refused, was_passed, refusing_map, number_some}
+use Rattle.answer.proofs.Orders.{none_refused, was_passed, number_some}
 use Rattle.leap.specs.declared.Table.{Table}
 use Rattle.leap.specs.Leap.{accepted}
 use Rattle.leap.proofs.Facts.{accepted_to}
@@ -19,11 +19,9 @@ use Rattle.labels.proofs.Readings.{micro_less, day_between, reading_on}
 use Rattle.stamp.specs.declared.Scale.{Scale}
 use Rattle.stamp.specs.declared.Stamp.{Stamp}
 use Rattle.stamp.specs.declared.InstantAnswer.TheVariants.{At, Refused as NoInstant}
-use Rattle.stamp.specs.declared.ShownAnswer.{ShownAnswer}
-use Rattle.stamp.specs.declared.ShownAnswer.TheVariants.{Shown, Refused as NotShown}
 use Rattle.stamp.specs.Scales.{scale_of, known_scale, scale_tests, offsets_of, most_second, instant_for}
 use Rattle.stamp.specs.Back.{in_range, stamp_at}
-use Rattle.stamp.specs.Days.{day_time, shown_of, day_start, instant_after}
+use Rattle.stamp.specs.Days.{day_start, instant_after}
 use Rattle.stamp.specs.Promise.{Reads}
 use Rattle.stamp.proofs.Scales.{most_sixty, most_of}
 use Rattle.stamp.proofs.Days.{instant_by_day}
@@ -35,21 +33,12 @@ use Rattle.julian.specs.declared.JulianDate.{JulianDate}
 use Rattle.julian.specs.declared.JulianAnswer.{JulianAnswer}
 use Rattle.julian.specs.declared.JulianAnswer.TheVariants.{Dated, Refused}
 use Rattle.julian.specs.Midnight.{midnight_in_years, day_number}
-use Rattle.julian.specs.Dates.{pair_at, pair_of, write_julian, julian_results, nearest_in, same_day, day_read, micro_read, read_tests, read_julian}
+use Rattle.julian.specs.Dates.{pair_of, write_julian, julian_results, nearest_in, same_day, day_read, micro_read, read_tests, read_julian}
 use Rattle.julian.specs.Promise.{IsPair}
 use Rattle.julian.proofs.Years.{years}
 use Rattle.julian.proofs.Midnight.{midnight_fine, day_back, years_fine}
 
 -- ---- an instant with its pair
-
--- the pair of what a scale shows
-abbrev pub dated : ShownAnswer → JulianAnswer
-dated (Shown d) = Dated (pair_at d.day d.micro (1000000 * d.seconds))
-dated (NotShown why) = Refused why
-
-pub written : (t : Table) (x : ℤ) (k : ℕ) → dated (shown_of t x k) ≡ write_julian t x k
-unfolding shown_of write_julian
-written t x k = refusing_map dated NotShown (scale_tests t k ++ (in_range t (scale_of k) x, RANGE) ∷ []) (Shown (day_time (offsets_of t (scale_of k)) (stamp_at t (scale_of k) x).reading))
 
 -- from an answer's numbers back to the answer
 pub at_pair : (a : JulianAnswer) (p : JulianDate) → julian_results a ≡ (0, p) → a ≡ Dated p

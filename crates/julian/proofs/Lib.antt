@@ -1,5 +1,6 @@
 pub mod Years
 pub mod Midnight
+pub mod Written
 pub mod Dates
 pub mod Stands
 pub mod Uniform

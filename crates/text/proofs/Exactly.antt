@@ -54,9 +54,9 @@ fraction_size (suc k) u h = rw (ne_eqb (suc k) 0 (λ e. omega arith)) (simp leng
 
 pub sized : Sized
 unfolding picture_text
-sized zero digits r h g = omega (arith, fraction_size digits r.micro g)
-sized (suc zero) digits r h g = omega (arith, fraction_size digits r.micro g)
-sized (suc (suc zero)) digits r h g = omega (arith, fraction_size digits r.micro g)
+sized zero digits r h g = omega (arith, fraction_size digits (fields_of 0 digits r).micro g)
+sized (suc zero) digits r h g = omega (arith, fraction_size digits (fields_of 1 digits r).micro g)
+sized (suc (suc zero)) digits r h g = omega (arith, fraction_size digits (fields_of 2 digits r).micro g)
 sized (suc (suc (suc p))) digits r h g = absurd (omega arith)
 
 -- ---- the fields of an admitted reading

@@ -10,7 +10,7 @@ use Rattle.stamp.specs.Marks.{beyond_at, marked_shown, shown_of_marked}
 use Rattle.julian.specs.declared.JulianDate.{JulianDate}
 use Rattle.julian.specs.declared.JulianAnswer.TheVariants.{Dated}
 use Rattle.julian.specs.Marks.{marked_pair, write_julian_marked}
-use Rattle.julian.proofs.Dates.{dated, written}
+use Rattle.julian.proofs.Written.{dated, written}
 use Rattle.julian.proofs.write_julian.Goals as goal
 use Rattle.julian.proofs.write_julian.Goals.{After-shown_of-marked}
 
