@@ -3,11 +3,11 @@
 use mathlib.Core.Path.{◌≡◌, refl, sym, ap, ◌∙◌}
 use Prim.Native.Nat.{ℕ, ◌+◌, ◌*◌, ◌≤◌}
 use native.Mathlib.Omega.{arith}
-use lib.IntN.{ℤ, pos, ◌+ℤ◌, ◌-ℤ◌}
+use lib.IntN.{ℤ, pos, ◌-ℤ◌}
 use borrow.Author.Tests.{eqb-true}
 use lib.Dec.{eqb}
 use Rattle.laws.proofs.Cases.{pick}
-use Rattle.laws.proofs.Difference.{up, down, sum_is, diff_is, eq_from, le_to, le_from}
+use Rattle.laws.proofs.Difference.{up, down, diff_is, eq_from, le_to, le_from}
 use Rattle.laws.proofs.Machine.{Within}
 use Rattle.laws.proofs.Offsets.{Steps, uniform_steps}
 use Rattle.laws.proofs.Order.{NeverFalls, Injective}
@@ -23,6 +23,7 @@ use Rattle.stamp.specs.declared.Scale.{Scale}
 use Rattle.stamp.specs.declared.Scale.TheVariants.{Utc, Tai, Tdt, Gps}
 use Rattle.stamp.specs.Scales.{scale_of, fixed, offsets_of, most_second, to_instant, to_axis}
 use Rattle.stamp.specs.Parts.{first_offset}
+pub use Rattle.stamp.proofs.Axis.{to_axis_is}
 
 -- ---- the calendar rule
 
@@ -72,12 +73,6 @@ unfolding to_instant
 to_instant_is s a =
     let b : ℤ = a -ℤ pos 63113947200000000 in
     omega (arith, diff_is a (pos 63113947200000000), diff_is b (fixed s))
-
-pub to_axis_is : (s : Scale) (x : ℤ) → up (to_axis s x) + (down x + down (fixed s)) ≡ up x + up (fixed s) + 63113947200000000 + down (to_axis s x)
-unfolding to_axis
-to_axis_is s x =
-    let b : ℤ = x +ℤ fixed s in
-    omega (arith, sum_is x (fixed s), sum_is b (pos 63113947200000000))
 
 -- the instant at which the scale shows a microsecond where its offset is o
 pub instant_is : (s : Scale) (u : ℕ) (o : ℤ) → up (to_instant s (axis_at u o)) + (1000000 * down o + up (fixed s) + 63113947200000000) ≡ u + 1000000 * up o + down (fixed s) + down (to_instant s (axis_at u o))
