@@ -8,21 +8,20 @@ use native.Mathlib.Omega.{arith}
 use borrow.Author.Tests.{le-leb}
 use lib.Dec.{leb}
 use lib.ListN.{length, take, drop}
+use Rattle.std.specs.Prelude.{Result, Ok, Err}
 use Rattle.laws.proofs.Cases.{join}
 use Rattle.laws.proofs.Placed.{length_over, over_front, over_rest}
 use Rattle.answer.specs.declared.Refusal.{Refusal}
 use Rattle.answer.specs.declared.Refusal.TheVariants.{Room as ROOM}
-use Rattle.answer.specs.declared.Written.{Written}
-use Rattle.answer.specs.declared.Written.TheVariants.{Wrote, Refused}
 use Rattle.answer.specs.Refusals.{all_pass}
 use Rattle.answer.specs.Buffers.{room_last, written, buffer_after, written_results}
 use Rattle.answer.specs.Promise.{Kept, Writer}
 use Rattle.answer.proofs.Orders.{none_refused, pass_append}
 use Rattle.answer.proofs.Writers.{wrote, refused_keeps, fits, no_refusal, wrote_over}
 
-not_wrote : (a : Written) → ((written_results a).0 ≡ 0 → ⊥) → (why : Refusal) × (a ≡ Refused why)
-not_wrote (Wrote m) h = absurd (h refl)
-not_wrote (Refused why) h = (why, refl)
+not_wrote : (a : Result ℕ Refusal) → ((written_results a).0 ≡ 0 → ⊥) → (why : Refusal) × (a ≡ Err why)
+not_wrote (Ok m) h = absurd (h refl)
+not_wrote (Err why) h = (why, refl)
 
 module _ (tests : List (Bool × Refusal)) (bytes buffer : List ℕ) where
   kept : (n : ℕ) → written_results (written tests bytes buffer) ≡ (0, n) → Kept bytes buffer (buffer_after tests bytes buffer) n
@@ -45,7 +44,7 @@ module _ (tests : List (Bool × Refusal)) (bytes buffer : List ℕ) where
   back n h =
       let room = le-leb (length bytes) (length buffer) (omega (arith, h.1, h.2)) in
       ap written_results
-      (none_refused Refused (room_last tests bytes buffer) (Wrote (length bytes)) (pass_append tests ((leb (length bytes) (length buffer), ROOM) ∷ []) ∙ join h.0 (join room refl)))
+      (none_refused Err (room_last tests bytes buffer) (Ok (length bytes)) (pass_append tests ((leb (length bytes) (length buffer), ROOM) ∷ []) ∙ join h.0 (join room refl)))
       ∙ ap (λ m. (0, m)) h.1
 
   pub writer : Writer tests bytes buffer

@@ -2,20 +2,24 @@
 // No mode needs a precondition: what is kept of a number, a year or a word stays within its type for every byte.
 #![tactic(auto)]
 
-ghost use Rattle.std.specs.Prelude.{◌≡◌, cond};
+ghost use Rattle.std.specs.Prelude.{◌≡◌};
 ghost use Rattle.automaton.specs.Step.{in_text, in_gap, in_fresh, in_closed, in_run, in_quoted, in_rest, in_other, in_named, in_name, in_close, in_plus, in_value, in_quote, to_item, in_open, in_items, behind_item, in_item_run, in_item_quote, in_item_quoted, in_inside, in_sign, in_digits, in_to_date, in_pair, in_our_value, to_pair, in_first, in_pairs, in_ours, in_year, in_month, in_day, in_date, in_done, step as stepped};
-ghost use Rattle.automaton.specs.Ways.{reached, Leads, behind_date};
 
-use kinds::{is_between, is_gap, is_name, is_run, is_white, pick};
+use kinds::{OTHER, is_between, is_gap, is_name, is_run, is_white};
 
-// Where the reader stands.
-#[derive(Clone, Copy)]
+// How many bytes `\begindata` and `\begintext` have, and how many our name has. Numbers, as `Step` of specs/ counts.
+const BEGIN: usize = 10;
+
+const OURS: usize = 15;
+
+// Where the reader stands. A date's place, sign and size go side by side and in no struct: `Step` of specs/ and the theorems of `grammar` take a mode apart by them.
+#[derive(Clone, Copy, Debug, PartialEq, Eq)]
 pub enum Mode {
     // Where a file may end.
     Rest(Resting),
     // In a \begintext line, or in another's assignment.
     Inside(Within),
-    // In a name: so many bytes of ours, 16 for another; and where it begins.
+    // In a name: so many bytes of ours, OTHER for another; and where it begins.
     Name(usize, usize),
     // In our assignment, before a number.
     Ours(Pairing),
@@ -29,9 +33,9 @@ pub enum Mode {
     Dead(usize),
 }
 
-#[derive(Clone, Copy)]
+#[derive(Clone, Copy, Debug, PartialEq, Eq)]
 pub enum Resting {
-    // In a line of text: so many bytes of \begindata, 16 for any other line.
+    // In a line of text: so many bytes of \begindata, OTHER for any other line.
     Text(usize),
     // In data, on a line with nothing but white so far, and behind an assignment.
     Fresh,
@@ -43,7 +47,7 @@ pub enum Resting {
     Quoted,
 }
 
-#[derive(Clone, Copy)]
+#[derive(Clone, Copy, Debug, PartialEq, Eq)]
 pub enum Within {
     // So many bytes of \begintext.
     Close(usize),
@@ -60,7 +64,7 @@ pub enum Within {
     ItemQuoted,
 }
 
-#[derive(Clone, Copy)]
+#[derive(Clone, Copy, Debug, PartialEq, Eq)]
 pub enum Pairing {
     // Behind our name, behind its =, before the first pair, and behind a pair and what parts it from the next.
     Named,
@@ -69,14 +73,14 @@ pub enum Pairing {
     Pairs,
 }
 
-#[derive(Clone, Copy)]
+#[derive(Clone, Copy, Debug, PartialEq, Eq)]
 pub enum Counting {
     Sign,
     Digits,
     ToDate,
 }
 
-#[derive(Clone, Copy)]
+#[derive(Clone, Copy, Debug, PartialEq, Eq)]
 pub enum Dating {
     // So many digits of a year, and the year so far.
     Year(usize, u32),
@@ -86,94 +90,38 @@ pub enum Dating {
     Day(u32, bool),
 }
 
-// ---- ways: where a byte leads from a mode that carries nothing, by number as in specs/
-
-const DEAD: u8 = 0;
-
-const FRESH: u8 = 1;
-
-const GAP: u8 = 2;
-
-const CLOSED: u8 = 3;
-
-const RUN: u8 = 4;
-
-const QUOTED: u8 = 5;
-
-const LINE: u8 = 6;
-
-const CLOSE: u8 = 7;
-
-const OTHER: u8 = 8;
-
-const PLUS: u8 = 9;
-
-const VALUE: u8 = 10;
-
-const QUOTE: u8 = 11;
-
-const OPEN: u8 = 12;
-
-const ITEMS: u8 = 13;
-
-const ITEM_RUN: u8 = 14;
-
-const ITEM_QUOTE: u8 = 15;
-
-const ITEM_QUOTED: u8 = 16;
-
-const NAMED: u8 = 17;
-
-const OUR_VALUE: u8 = 18;
-
-const FIRST: u8 = 19;
-
-const PAIRS: u8 = 20;
-
-const UP: u8 = 21;
-
-const DOWN: u8 = 22;
-
-const DIGIT: u8 = 23;
-
-const NAME: u8 = 24;
-
-fn choose(test: bool, yes: Mode, other: Mode) -> Mode
-    ensures { result ≡ cond test yes other }
-{
-    if test { yes } else { other }
-}
-
 // ---- our number
 
 fn in_sign(at: usize, minus: bool, n: u16, b: u8) -> Mode
     ensures { result ≡ in_sign at minus n b }
 {
-    let more = Mode::Pair(minus, kinds::grow(n, b), Counting::Digits);
-    choose(digits::is_digit(b), more, Mode::Dead(at))
+    if digits::is_digit(b) {
+        Mode::Pair(minus, kinds::grow(n, b), Counting::Digits)
+    } else {
+        Mode::Dead(at)
+    }
 }
 
 fn in_digits(at: usize, minus: bool, n: u16, b: u8) -> Mode
     ensures { result ≡ in_digits at minus n b }
 {
-    let more = Mode::Pair(minus, kinds::grow(n, b), Counting::Digits);
-    let behind = choose(
-        is_between(b),
-        Mode::Pair(minus, n, Counting::ToDate),
-        Mode::Dead(at),
-    );
-    choose(digits::is_digit(b), more, behind)
+    if digits::is_digit(b) {
+        Mode::Pair(minus, kinds::grow(n, b), Counting::Digits)
+    } else if is_between(b) {
+        Mode::Pair(minus, n, Counting::ToDate)
+    } else {
+        Mode::Dead(at)
+    }
 }
 
 fn in_to_date(at: usize, minus: bool, n: u16, b: u8) -> Mode
     ensures { result ≡ in_to_date at minus n b }
 {
-    let date = choose(
-        b == b'@',
-        Mode::Date(at, minus, n, Dating::Year(0, 0)),
-        Mode::Dead(at),
-    );
-    choose(is_between(b), Mode::Pair(minus, n, Counting::ToDate), date)
+    match b {
+        _ if is_between(b) => Mode::Pair(minus, n, Counting::ToDate),
+        b'@' => Mode::Date(at, minus, n, Dating::Year(0, 0)),
+        _ => Mode::Dead(at),
+    }
 }
 
 fn in_pair(at: usize, minus: bool, n: u16, part: Counting, b: u8) -> Mode
@@ -186,91 +134,70 @@ fn in_pair(at: usize, minus: bool, n: u16, part: Counting, b: u8) -> Mode
     }
 }
 
-// The mode that a way leads to.
-fn reach(at: usize, b: u8, way: u8) -> Mode
-    ensures { result ≡ reached at b way }
-{
-    match way {
-        FRESH => Mode::Rest(Resting::Fresh),
-        GAP => Mode::Rest(Resting::Gap),
-        CLOSED => Mode::Rest(Resting::Closed),
-        RUN => Mode::Rest(Resting::Run),
-        QUOTED => Mode::Rest(Resting::Quoted),
-        LINE => Mode::Rest(Resting::Text(0)),
-        CLOSE => Mode::Inside(Within::Close(1)),
-        OTHER => Mode::Inside(Within::Other),
-        PLUS => Mode::Inside(Within::Plus),
-        VALUE => Mode::Inside(Within::Value),
-        QUOTE => Mode::Inside(Within::Quote),
-        OPEN => Mode::Inside(Within::Open),
-        ITEMS => Mode::Inside(Within::Items),
-        ITEM_RUN => Mode::Inside(Within::ItemRun),
-        ITEM_QUOTE => Mode::Inside(Within::ItemQuote),
-        ITEM_QUOTED => Mode::Inside(Within::ItemQuoted),
-        NAMED => Mode::Ours(Pairing::Named),
-        OUR_VALUE => Mode::Ours(Pairing::OurValue),
-        FIRST => Mode::Ours(Pairing::First),
-        PAIRS => Mode::Ours(Pairing::Pairs),
-        UP => Mode::Pair(false, 0, Counting::Sign),
-        DOWN => Mode::Pair(true, 0, Counting::Sign),
-        DIGIT => in_sign(at, false, 0, b),
-        NAME => Mode::Name(kinds::ours_next(0, b), at),
-        _ => Mode::Dead(at),
-    }
-}
-
 // ---- where a file may end
 
 fn in_text(k: usize, b: u8) -> Mode
     ensures { result ≡ in_text k b }
 {
-    let same = Mode::Rest(Resting::Text(k));
-    let other = Mode::Rest(Resting::Text(16));
-    let next = Mode::Rest(Resting::Text(kinds::data_next(k, b)));
-    let line = Mode::Rest(Resting::Text(0));
-    choose(
-        b == b'\n',
-        choose(k == 10, Mode::Rest(Resting::Fresh), line),
-        choose(is_white(b), choose((k == 0) | (k == 10), same, other), next),
-    )
+    Mode::Rest(match b {
+        b'\n' if k == BEGIN => Resting::Fresh,
+        b'\n' => Resting::Text(0),
+        _ if !is_white(b) => Resting::Text(kinds::data_next(k, b)),
+        _ if k == 0 || k == BEGIN => Resting::Text(k),
+        _ => Resting::Text(OTHER),
+    })
 }
 
-fn gap_next(b: u8) -> u8
-    ensures { Leads b result in_gap }
+fn gap_next(at: usize, b: u8) -> Mode
+    ensures { result ≡ in_gap at b }
 {
-    pick(
-        is_white(b),
-        GAP,
-        pick(b == b'\n', FRESH, pick(is_name(b), NAME, DEAD)),
-    )
+    match b {
+        _ if is_white(b) => Mode::Rest(Resting::Gap),
+        b'\n' => Mode::Rest(Resting::Fresh),
+        _ if is_name(b) => Mode::Name(kinds::ours_next(0, b), at),
+        _ => Mode::Dead(at),
+    }
 }
 
-fn fresh_next(b: u8) -> u8
-    ensures { Leads b result in_fresh }
+fn fresh_next(at: usize, b: u8) -> Mode
+    ensures { result ≡ in_fresh at b }
 {
-    pick(b == b'\\', CLOSE, pick(is_white(b), FRESH, gap_next(b)))
+    match b {
+        b'\\' => Mode::Inside(Within::Close(1)),
+        _ if is_white(b) => Mode::Rest(Resting::Fresh),
+        _ => gap_next(at, b),
+    }
 }
 
-fn closed_next(b: u8) -> u8
-    ensures { Leads b result in_closed }
+fn closed_next(at: usize, b: u8) -> Mode
+    ensures { result ≡ in_closed at b }
 {
-    pick(b == b'\n', LINE, pick(is_white(b), CLOSED, DEAD))
+    match b {
+        b'\n' => Mode::Rest(Resting::Text(0)),
+        _ if is_white(b) => Mode::Rest(Resting::Closed),
+        _ => Mode::Dead(at),
+    }
 }
 
-fn run_next(b: u8) -> u8
-    ensures { Leads b result in_run }
+fn run_next(at: usize, b: u8) -> Mode
+    ensures { result ≡ in_run at b }
 {
-    pick(
-        is_run(b),
-        RUN,
-        pick(is_white(b), GAP, pick(b == b'\n', FRESH, DEAD)),
-    )
+    match b {
+        _ if is_run(b) => Mode::Rest(Resting::Run),
+        _ if is_white(b) => Mode::Rest(Resting::Gap),
+        b'\n' => Mode::Rest(Resting::Fresh),
+        _ => Mode::Dead(at),
+    }
 }
 
-fn quoted_next(b: u8) -> u8
-    ensures { Leads b result in_quoted }
+fn quoted_next(at: usize, b: u8) -> Mode
+    ensures { result ≡ in_quoted at b }
 {
-    pick(b == b'\'', QUOTE, gap_next(b))
+    if b == b'\'' {
+        Mode::Inside(Within::Quote)
+    } else {
+        gap_next(at, b)
+    }
 }
 
 fn in_rest(at: usize, rest: Resting, b: u8) -> Mode
@@ -278,42 +205,49 @@ fn in_rest(at: usize, rest: Resting, b: u8) -> Mode
 {
     match rest {
         Resting::Text(k) => in_text(k, b),
-        Resting::Fresh => reach(at, b, fresh_next(b)),
-        Resting::Gap => reach(at, b, gap_next(b)),
-        Resting::Closed => reach(at, b, closed_next(b)),
-        Resting::Run => reach(at, b, run_next(b)),
-        Resting::Quoted => reach(at, b, quoted_next(b)),
+        Resting::Fresh => fresh_next(at, b),
+        Resting::Gap => gap_next(at, b),
+        Resting::Closed => closed_next(at, b),
+        Resting::Run => run_next(at, b),
+        Resting::Quoted => quoted_next(at, b),
     }
 }
 
 // ---- a name
 
-fn other_next(b: u8) -> u8
-    ensures { Leads b result in_other }
+fn other_next(at: usize, b: u8) -> Mode
+    ensures { result ≡ in_other at b }
 {
-    pick(
-        is_gap(b),
-        OTHER,
-        pick(b == b'+', PLUS, pick(b == b'=', VALUE, DEAD)),
-    )
+    match b {
+        _ if is_gap(b) => Mode::Inside(Within::Other),
+        b'+' => Mode::Inside(Within::Plus),
+        b'=' => Mode::Inside(Within::Value),
+        _ => Mode::Dead(at),
+    }
 }
 
-fn named_next(b: u8) -> u8
-    ensures { Leads b result in_named }
+fn named_next(at: usize, b: u8) -> Mode
+    ensures { result ≡ in_named at b }
 {
-    pick(is_gap(b), NAMED, pick(b == b'=', OUR_VALUE, DEAD))
+    match b {
+        _ if is_gap(b) => Mode::Ours(Pairing::Named),
+        b'=' => Mode::Ours(Pairing::OurValue),
+        _ => Mode::Dead(at),
+    }
 }
 
 fn in_name(have: bool, at: usize, k: usize, start: usize, b: u8) -> Mode
     ensures { result ≡ in_name have at k start b }
 {
-    let ours = choose(have, Mode::Dead(start), reach(at, b, named_next(b)));
-    let behind = choose(k == 15, ours, reach(at, b, other_next(b)));
-    choose(
-        is_name(b),
-        Mode::Name(kinds::ours_next(k, b), start),
-        behind,
-    )
+    if is_name(b) {
+        Mode::Name(kinds::ours_next(k, b), start)
+    } else if k != OURS {
+        other_next(at, b)
+    } else if have {
+        Mode::Dead(start)
+    } else {
+        named_next(at, b)
+    }
 }
 
 // ---- a \begintext line, and another's assignment
@@ -321,89 +255,113 @@ fn in_name(have: bool, at: usize, k: usize, start: usize, b: u8) -> Mode
 fn in_close(at: usize, k: usize, b: u8) -> Mode
     ensures { result ≡ in_close at k b }
 {
-    let next = kinds::text_next(k, b);
-    let more = choose(
-        next == 10,
-        Mode::Rest(Resting::Closed),
-        Mode::Inside(Within::Close(next)),
-    );
-    choose(next == 16, Mode::Dead(at), more)
+    match kinds::text_next(k, b) {
+        OTHER => Mode::Dead(at),
+        BEGIN => Mode::Rest(Resting::Closed),
+        next => Mode::Inside(Within::Close(next)),
+    }
 }
 
-fn plus_next(b: u8) -> u8
-    ensures { Leads b result in_plus }
+fn plus_next(at: usize, b: u8) -> Mode
+    ensures { result ≡ in_plus at b }
 {
-    pick(b == b'=', VALUE, DEAD)
+    if b == b'=' {
+        Mode::Inside(Within::Value)
+    } else {
+        Mode::Dead(at)
+    }
 }
 
-fn value_next(b: u8) -> u8
-    ensures { Leads b result in_value }
+fn value_next(at: usize, b: u8) -> Mode
+    ensures { result ≡ in_value at b }
 {
-    pick(
-        is_gap(b),
-        VALUE,
-        pick(
-            b == b'(',
-            OPEN,
-            pick(b == b'\'', QUOTE, pick(is_run(b), RUN, DEAD)),
-        ),
-    )
+    match b {
+        _ if is_gap(b) => Mode::Inside(Within::Value),
+        b'(' => Mode::Inside(Within::Open),
+        b'\'' => Mode::Inside(Within::Quote),
+        _ if is_run(b) => Mode::Rest(Resting::Run),
+        _ => Mode::Dead(at),
+    }
 }
 
-fn quote_next(b: u8) -> u8
-    ensures { Leads b result in_quote }
+fn quote_next(at: usize, b: u8) -> Mode
+    ensures { result ≡ in_quote at b }
 {
-    pick(
-        b == b'\'',
-        QUOTED,
-        pick((b == b'\n') | (b == b'\\'), DEAD, QUOTE),
-    )
+    match b {
+        b'\'' => Mode::Rest(Resting::Quoted),
+        b'\n' | b'\\' => Mode::Dead(at),
+        _ => Mode::Inside(Within::Quote),
+    }
 }
 
-fn to_item(b: u8) -> u8
-    ensures { Leads b result to_item }
+fn to_item(at: usize, b: u8) -> Mode
+    ensures { result ≡ to_item at b }
 {
-    pick(b == b'\'', ITEM_QUOTE, pick(is_run(b), ITEM_RUN, DEAD))
+    match b {
+        b'\'' => Mode::Inside(Within::ItemQuote),
+        _ if is_run(b) => Mode::Inside(Within::ItemRun),
+        _ => Mode::Dead(at),
+    }
 }
 
-fn open_next(b: u8) -> u8
-    ensures { Leads b result in_open }
+fn open_next(at: usize, b: u8) -> Mode
+    ensures { result ≡ in_open at b }
 {
-    pick(is_between(b), OPEN, to_item(b))
+    if is_between(b) {
+        Mode::Inside(Within::Open)
+    } else {
+        to_item(at, b)
+    }
 }
 
-fn items_next(b: u8) -> u8
-    ensures { Leads b result in_items }
+fn items_next(at: usize, b: u8) -> Mode
+    ensures { result ≡ in_items at b }
 {
-    pick(is_between(b), ITEMS, pick(b == b')', GAP, to_item(b)))
+    match b {
+        _ if is_between(b) => Mode::Inside(Within::Items),
+        b')' => Mode::Rest(Resting::Gap),
+        _ => to_item(at, b),
+    }
 }
 
-fn behind_item(b: u8) -> u8
-    ensures { Leads b result behind_item }
+fn behind_item(at: usize, b: u8) -> Mode
+    ensures { result ≡ behind_item at b }
 {
-    pick(is_between(b), ITEMS, pick(b == b')', GAP, DEAD))
+    match b {
+        _ if is_between(b) => Mode::Inside(Within::Items),
+        b')' => Mode::Rest(Resting::Gap),
+        _ => Mode::Dead(at),
+    }
 }
 
-fn item_run_next(b: u8) -> u8
-    ensures { Leads b result in_item_run }
+fn item_run_next(at: usize, b: u8) -> Mode
+    ensures { result ≡ in_item_run at b }
 {
-    pick(is_run(b), ITEM_RUN, behind_item(b))
+    if is_run(b) {
+        Mode::Inside(Within::ItemRun)
+    } else {
+        behind_item(at, b)
+    }
 }
 
-fn item_quote_next(b: u8) -> u8
-    ensures { Leads b result in_item_quote }
+fn item_quote_next(at: usize, b: u8) -> Mode
+    ensures { result ≡ in_item_quote at b }
 {
-    pick(
-        b == b'\'',
-        ITEM_QUOTED,
-        pick((b == b'\n') | (b == b'\\'), DEAD, ITEM_QUOTE),
-    )
+    match b {
+        b'\'' => Mode::Inside(Within::ItemQuoted),
+        b'\n' | b'\\' => Mode::Dead(at),
+        _ => Mode::Inside(Within::ItemQuote),
+    }
 }
 
-fn item_quoted_next(b: u8) -> u8
-    ensures { Leads b result in_item_quoted }
+fn item_quoted_next(at: usize, b: u8) -> Mode
+    ensures { result ≡ in_item_quoted at b }
 {
-    pick(b == b'\'', ITEM_QUOTE, behind_item(b))
+    if b == b'\'' {
+        Mode::Inside(Within::ItemQuote)
+    } else {
+        behind_item(at, b)
+    }
 }
 
 fn in_inside(at: usize, within: Within, b: u8) -> Mode
@@ -411,52 +369,68 @@ fn in_inside(at: usize, within: Within, b: u8) -> Mode
 {
     match within {
         Within::Close(k) => in_close(at, k, b),
-        Within::Other => reach(at, b, other_next(b)),
-        Within::Plus => reach(at, b, plus_next(b)),
-        Within::Value => reach(at, b, value_next(b)),
-        Within::Quote => reach(at, b, quote_next(b)),
-        Within::Open => reach(at, b, open_next(b)),
-        Within::Items => reach(at, b, items_next(b)),
-        Within::ItemRun => reach(at, b, item_run_next(b)),
-        Within::ItemQuote => reach(at, b, item_quote_next(b)),
-        Within::ItemQuoted => reach(at, b, item_quoted_next(b)),
+        Within::Other => other_next(at, b),
+        Within::Plus => plus_next(at, b),
+        Within::Value => value_next(at, b),
+        Within::Quote => quote_next(at, b),
+        Within::Open => open_next(at, b),
+        Within::Items => items_next(at, b),
+        Within::ItemRun => item_run_next(at, b),
+        Within::ItemQuote => item_quote_next(at, b),
+        Within::ItemQuoted => item_quoted_next(at, b),
     }
 }
 
 // ---- our assignment, before a number
 
-fn our_value_next(b: u8) -> u8
-    ensures { Leads b result in_our_value }
+fn our_value_next(at: usize, b: u8) -> Mode
+    ensures { result ≡ in_our_value at b }
 {
-    pick(is_gap(b), OUR_VALUE, pick(b == b'(', FIRST, DEAD))
+    match b {
+        _ if is_gap(b) => Mode::Ours(Pairing::OurValue),
+        b'(' => Mode::Ours(Pairing::First),
+        _ => Mode::Dead(at),
+    }
 }
 
-fn to_pair(b: u8) -> u8
-    ensures { Leads b result to_pair }
+fn to_pair(at: usize, b: u8) -> Mode
+    ensures { result ≡ to_pair at b }
 {
-    pick(b == b'+', UP, pick(b == b'-', DOWN, DIGIT))
+    match b {
+        b'+' => Mode::Pair(false, 0, Counting::Sign),
+        b'-' => Mode::Pair(true, 0, Counting::Sign),
+        _ => in_sign(at, false, 0, b),
+    }
 }
 
-fn first_next(b: u8) -> u8
-    ensures { Leads b result in_first }
+fn first_next(at: usize, b: u8) -> Mode
+    ensures { result ≡ in_first at b }
 {
-    pick(is_between(b), FIRST, to_pair(b))
+    if is_between(b) {
+        Mode::Ours(Pairing::First)
+    } else {
+        to_pair(at, b)
+    }
 }
 
-fn pairs_next(b: u8) -> u8
-    ensures { Leads b result in_pairs }
+fn pairs_next(at: usize, b: u8) -> Mode
+    ensures { result ≡ in_pairs at b }
 {
-    pick(is_between(b), PAIRS, pick(b == b')', GAP, to_pair(b)))
+    match b {
+        _ if is_between(b) => Mode::Ours(Pairing::Pairs),
+        b')' => Mode::Rest(Resting::Gap),
+        _ => to_pair(at, b),
+    }
 }
 
 fn in_ours(at: usize, pairing: Pairing, b: u8) -> Mode
     ensures { result ≡ in_ours at pairing b }
 {
     match pairing {
-        Pairing::Named => reach(at, b, named_next(b)),
-        Pairing::OurValue => reach(at, b, our_value_next(b)),
-        Pairing::First => reach(at, b, first_next(b)),
-        Pairing::Pairs => reach(at, b, pairs_next(b)),
+        Pairing::Named => named_next(at, b),
+        Pairing::OurValue => our_value_next(at, b),
+        Pairing::First => first_next(at, b),
+        Pairing::Pairs => pairs_next(at, b),
     }
 }
 
@@ -465,47 +439,40 @@ fn in_ours(at: usize, pairing: Pairing, b: u8) -> Mode
 fn in_year(start: usize, minus: bool, n: u16, k: usize, year: u32, b: u8) -> Mode
     ensures { result ≡ in_year start minus n k year b }
 {
-    let bad = Mode::Dead(start);
     if k < 4 {
         let grown = kinds::grow_year(year, b);
-        let more = Mode::Date(start, minus, n, Dating::Year(k + 1, grown));
-        return choose(
-            digits::is_digit(b) & kinds::years_begin(k, grown),
-            more,
-            bad,
-        );
+        if digits::is_digit(b) && kinds::years_begin(k, grown) {
+            return Mode::Date(start, minus, n, Dating::Year(k + 1, grown));
+        }
+    } else if b == b'-' {
+        return Mode::Date(start, minus, n, Dating::Month(year, 0, 0));
     }
-    choose(
-        b == b'-',
-        Mode::Date(start, minus, n, Dating::Month(year, 0, 0)),
-        bad,
-    )
+    Mode::Dead(start)
 }
 
 fn in_month(start: usize, minus: bool, n: u16, year: u32, k: usize, from: u8, b: u8) -> Mode
     ensures { result ≡ in_month start minus n year k from b }
 {
-    let bad = Mode::Dead(start);
     if k < 3 {
         let month = kinds::month_on(from, k, kinds::capital(b));
-        let more = Mode::Date(start, minus, n, Dating::Month(year, k + 1, month));
-        return choose(0 < month, more, bad);
+        if 0 < month {
+            return Mode::Date(start, minus, n, Dating::Month(year, k + 1, month));
+        }
+    } else if b == b'-' {
+        let month = kinds::month_number(year, from);
+        return Mode::Date(start, minus, n, Dating::Day(month, false));
     }
-    let day = Mode::Date(
-        start,
-        minus,
-        n,
-        Dating::Day(kinds::month_number(year, from), false),
-    );
-    choose(b == b'-', day, bad)
+    Mode::Dead(start)
 }
 
 fn in_day(start: usize, minus: bool, n: u16, month: u32, nought: bool, b: u8) -> Mode
     ensures { result ≡ in_day start minus n month nought b }
 {
-    let zero = Mode::Date(start, minus, n, Dating::Day(month, true));
-    let rest = choose(!nought & (b == b'0'), zero, Mode::Dead(start));
-    choose(b == b'1', Mode::Done(start, minus, n, month), rest)
+    match b {
+        b'1' => Mode::Done(start, minus, n, month),
+        b'0' if !nought => Mode::Date(start, minus, n, Dating::Day(month, true)),
+        _ => Mode::Dead(start),
+    }
 }
 
 fn in_date(start: usize, minus: bool, n: u16, dating: Dating, b: u8) -> Mode
@@ -518,19 +485,19 @@ fn in_date(start: usize, minus: bool, n: u16, dating: Dating, b: u8) -> Mode
     }
 }
 
-fn behind_date(b: u8) -> u8
-    ensures { Leads b result behind_date }
-{
-    pick(is_between(b), PAIRS, pick(b == b')', GAP, DEAD))
-}
-
 fn in_done(at: usize, start: usize, b: u8) -> Mode
     ensures { result ≡ in_done at start b }
 {
-    choose(is_run(b), Mode::Dead(start), reach(at, b, behind_date(b)))
+    match b {
+        _ if is_run(b) => Mode::Dead(start),
+        _ if is_between(b) => Mode::Ours(Pairing::Pairs),
+        b')' => Mode::Rest(Resting::Gap),
+        _ => Mode::Dead(at),
+    }
 }
 
 // Where the reader stands behind the byte b at place `at`; `have`: a pair of ours stood before.
+#[tactic(auto, unfolding(crate::specs::Step::step))]
 pub fn step(have: bool, at: usize, mode: Mode, b: u8) -> Mode
     ensures { result ≡ stepped have at mode b }
 {
@@ -541,7 +508,7 @@ pub fn step(have: bool, at: usize, mode: Mode, b: u8) -> Mode
         Mode::Ours(pairing) => in_ours(at, pairing, b),
         Mode::Pair(minus, n, part) => in_pair(at, minus, n, part, b),
         Mode::Date(start, minus, n, dating) => in_date(start, minus, n, dating, b),
-        Mode::Done(start, _, _, _) => in_done(at, start, b),
+        Mode::Done(start, ..) => in_done(at, start, b),
         Mode::Dead(place) => Mode::Dead(place),
     }
 }

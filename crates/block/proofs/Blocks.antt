@@ -4,7 +4,7 @@ use Prim.Native.Nat.{ℕ, suc, ◌+◌, ◌-◌, ◌*◌, ◌^◌, ◌<◌, ◌�
 use mathlib.Core.Path.{◌≡◌, sym, ap, ap₂, ◌∙◌}
 use mathlib.Core.List.{List, [], ◌++◌, append_assoc, append-nil}
 use native.Mathlib.Omega.{arith}
-use lib.ListN.{length, take, drop, replicate, length-append, length-take}
+use lib.ListN.{length, take, drop, length-append, length-take}
 use lib.Seq.{sets, sets-eq, length-sets, take_at}
 use Rattle.leap.specs.declared.Table.{Table}
 use Rattle.leap.specs.Leap.{vouched_to}
@@ -65,10 +65,10 @@ pub record Stored (front : List ℕ) (t : Table) (bytes : List ℕ) (len k : ℕ
   pub short : len ≤ 4 + 3 * (k + 1)
   pub long : length bytes ≡ 196
 
--- what opens a block was stored, and then the count at place `at`
-module _ (form : Form) (t : Table) {start : List ℕ} {at : ℕ} (ea : at ≡ length (opening form t.vouched)) (es : start ≡ sets (replicate 196 0) 0 (opening form t.vouched)) where
+-- what opens a block was stored in 196 bytes, and then the count at place `at`
+module _ (form : Form) (t : Table) (given : List ℕ) (long : length given ≡ 196) {start : List ℕ} {at : ℕ} (ea : at ≡ length (opening form t.vouched)) (es : start ≡ sets given 0 (opening form t.vouched)) where
   pub opened_long : length start ≡ 196
-  opened_long = ap length es ∙ length-sets (replicate 196 0) 0 (opening form t.vouched)
+  opened_long = ap length es ∙ length-sets given 0 (opening form t.vouched) ∙ long
 
   pub opened_room : at + length (number_bytes t.count) ≤ length start
   opened_room = omega (arith, opened_long, opening_size form t.vouched, number_size t.count)
@@ -81,7 +81,7 @@ module _ (form : Form) (t : Table) {start : List ℕ} {at : ℕ} (ea : at ≡ le
         ∙ take_at (take at start) (number_bytes t.count ++ rest) at (omega (arith, length-take at start, opened_room))
 
     pub opened_front : take at bytes ≡ opening form t.vouched
-    opened_front = let e : at ≡ 0 + length (opening form t.vouched) = omega arith in kept ∙ ap₂ take e es ∙ take_sets (replicate 196 0) 0 (opening form t.vouched) (omega (arith, opening_size form t.vouched))
+    opened_front = let e : at ≡ 0 + length (opening form t.vouched) = omega arith in kept ∙ ap₂ take e es ∙ take_sets given 0 (opening form t.vouched) (omega (arith, long, opening_size form t.vouched))
 
     pub stored_first : {r : ℕ} → Accepted t → r ≡ at + length (number_bytes t.count) → Stored (take at bytes) t bytes r 0
     unfolding block_of

@@ -8,6 +8,7 @@ use native.Mathlib.Omega.{arith}
 use lib.ListN.{length, drop, get_or}
 use lib.Dec.{ltb, eqb}
 use borrow.Author.Tests.{lt-ltb, le-ltb, ltb-true, ltb-false, eqb-true, ne_eqb}
+use Rattle.std.specs.Prelude.{Ok, Err}
 use Rattle.laws.proofs.Cases.{by_order}
 use Rattle.answer.specs.declared.Refusal.TheVariants.{Cut as CUT, Groups as GROUPS, Table as TABLE}
 use Rattle.answer.specs.Refusals.{refusing}
@@ -15,12 +16,10 @@ use Rattle.answer.proofs.Orders.{refusing_map}
 use Rattle.leap.specs.Leap.{last_entry_month, vouched_right}
 use Rattle.leap.specs.Entries.{Entry, first_entry}
 use Rattle.leap.specs.Outcomes.{Outcome, entered, fault, joined}
-use Rattle.block.specs.declared.NumberAnswer.{NumberAnswer}
-use Rattle.block.specs.declared.NumberAnswer.TheVariants.{Number, Bad}
 use Rattle.block.specs.declared.Form.{Form}
 use Rattle.block.specs.declared.Form.TheVariants.{Old, New}
 use Rattle.block.specs.Faults.{marks, number_size, number_value, some_last, shortest, number_tests, within, gap_fine, Fault, no_fault, fault_at, month_fault, fault_from, block_fault, vouched_fault, first_fault}
-use Rattle.block.specs.Reading.{above, read_groups, tested, read_number, next_entry, on_number, last_entry, read_entries, in_block, in_vouched, in_form}
+use Rattle.block.specs.Reading.{NumberRead, above, read_groups, tested, read_number, next_entry, on_number, last_entry, read_entries, in_block, in_vouched, in_form}
 use Rattle.block.proofs.Numbers.{read_more, above_zero, above_number}
 
 -- ---- a number
@@ -58,24 +57,24 @@ last_group (b ∷ s) h =
     (λ l. omega (arith, value_more b s l, last_group s (rw (marks_more b s l) at h)))
 
 -- a group below a number n of one group or of more, whose last group is 0 or not
-above_cases : (low n bytes : ℕ) (one some : Bool) → (some ≡ true → n ≡ 0 → ⊥) → (some ≡ false → one ≡ true → n ≡ 0) → above low (cond (one || some) (Number n bytes) (Bad GROUPS)) ≡ cond some (Number (n * 128 + low) (bytes + 1)) (Bad GROUPS)
+above_cases : (low n bytes : ℕ) (one some : Bool) → (some ≡ true → n ≡ 0 → ⊥) → (some ≡ false → one ≡ true → n ≡ 0) → above low (cond (one || some) (Ok (n, bytes)) (Err GROUPS)) ≡ cond some (Ok (n * 128 + low, bytes + 1)) (Err GROUPS)
 above_cases low n bytes true true f g = above_number low n bytes (f refl)
 above_cases low n bytes false true f g = above_number low n bytes (f refl)
 above_cases low n bytes true false f g = above_zero low n bytes (g refl refl)
 above_cases low n bytes false false f g = refl
 
-above_number_of : (low : ℕ) (s : List ℕ) → above low (cond (shortest s) (Number (number_value s) (number_size s)) (Bad GROUPS)) ≡ cond (some_last s) (Number (number_value s * 128 + low) (suc (marks s) + 1)) (Bad GROUPS)
+above_number_of : (low : ℕ) (s : List ℕ) → above low (cond (shortest s) (Ok (number_value s, number_size s)) (Err GROUPS)) ≡ cond (some_last s) (Ok (number_value s * 128 + low, suc (marks s) + 1)) (Err GROUPS)
 above_number_of low s =
     above_cases low (number_value s) (number_size s) (eqb (marks s) 0) (some_last s)
     (λ e z. omega (arith, last_group s (ltb-true 0 _ e)))
     (λ e z. only_group s (eqb-true (marks s) 0 z) (ltb-false 0 _ e))
-    ∙ ap (λ n. cond (some_last s) (Number (number_value s * 128 + low) n) (Bad GROUPS)) more
+    ∙ ap (λ n. cond (some_last s) (Ok (number_value s * 128 + low, n)) (Err GROUPS)) more
   where
     more : number_size s + 1 ≡ suc (marks s) + 1
     more = omega arith
 
 -- one group more
-one_more : (low k m n : ℕ) (x y : NumberAnswer) → above low x ≡ y → above low (cond (ltb m k) (cond (ltb m n) x (Bad CUT)) (Bad GROUPS)) ≡ cond (ltb (suc m) (suc k)) (cond (ltb (suc m) (suc n)) y (Bad CUT)) (Bad GROUPS)
+one_more : (low k m n : ℕ) (x y : NumberRead) → above low x ≡ y → above low (cond (ltb m k) (cond (ltb m n) x (Err CUT)) (Err GROUPS)) ≡ cond (ltb (suc m) (suc k)) (cond (ltb (suc m) (suc n)) y (Err CUT)) (Err GROUPS)
 one_more low k m n x y e =
     by_order m k
     (λ p.
@@ -85,8 +84,8 @@ one_more low k m n x y e =
     (λ p. rw (le-ltb m k p, le-ltb (suc m) (suc k) (omega arith)))
 
 -- what is read as a number of at most k groups
-abbrev judged : ℕ → List ℕ → NumberAnswer
-judged k s = cond (ltb (marks s) k) (cond (ltb (marks s) (length s)) (cond (shortest s) (Number (number_value s) (number_size s)) (Bad GROUPS)) (Bad CUT)) (Bad GROUPS)
+abbrev judged : ℕ → List ℕ → NumberRead
+judged k s = cond (ltb (marks s) k) (cond (ltb (marks s) (length s)) (cond (shortest s) (Ok (number_value s, number_size s)) (Err GROUPS)) (Err CUT)) (Err GROUPS)
 
 read_is : (k : ℕ) (s : List ℕ) → read_groups k s ≡ judged k s
 unfolding read_groups marks
@@ -112,7 +111,7 @@ fault_after es (fault why at) = refl
 on_tests : (at : ℕ) (fine : ℕ → Bool) (follows : ℕ → ℕ → Outcome) (s : List ℕ) → on_number at follows (read_number fine s) ≡ refusing (λ why. fault why at) (number_tests fine s) (follows (number_value s) (number_size s))
 on_tests at fine follows s = ap (λ r. on_number at follows (tested fine r)) (read_is 3 s) ∙ go (ltb (marks s) 3) (ltb (marks s) (length s)) (shortest s) (fine (number_value s)) refl
   where
-    go : (a b c d : Bool) → fine (number_value s) ≡ d → on_number at follows (tested fine (cond a (cond b (cond c (Number (number_value s) (number_size s)) (Bad GROUPS)) (Bad CUT)) (Bad GROUPS)))
+    go : (a b c d : Bool) → fine (number_value s) ≡ d → on_number at follows (tested fine (cond a (cond b (cond c (Ok (number_value s, number_size s)) (Err GROUPS)) (Err CUT)) (Err GROUPS)))
         ≡ cond a (cond b (cond c (cond d (follows (number_value s) (number_size s)) (fault TABLE at)) (fault GROUPS at)) (fault CUT at)) (fault GROUPS at)
     go true true true true e = rw e
     go true true true false e = rw e

@@ -9,6 +9,7 @@ use lib.ListN.{length, drop, get_or}
 use lib.Seq.{drop-append_seam, get_or-drop}
 use lib.Dec.{eqb}
 use borrow.Author.Tests.{eqb-true}
+use Rattle.std.specs.Prelude.{Ok, Err}
 use Rattle.laws.proofs.Cases.{pick, chosen}
 use Rattle.answer.specs.declared.Refusal.{Refusal}
 use Rattle.leap.specs.declared.Table.{Table}
@@ -18,14 +19,12 @@ use Rattle.leap.specs.Outcomes.{Outcome, entered, fault, joined}
 use Rattle.leap.proofs.Facts.{Later, Accepted, same_entry, accepted_to}
 use Rattle.leap.proofs.Vouched.{revouched, right_late}
 use Rattle.leap.proofs.Entries.{Follow, from_long, entry_of, entries_at, entries_of, accepted_entries, accepted_of}
-use Rattle.block.specs.declared.NumberAnswer.{NumberAnswer}
-use Rattle.block.specs.declared.NumberAnswer.TheVariants.{Number, Bad}
 use Rattle.block.specs.declared.Form.{Form}
 use Rattle.block.specs.declared.Form.TheVariants.{Old, New}
 use Rattle.block.specs.Numbers.{number_bytes}
 use Rattle.block.specs.Blocks.{step_number, step_bytes, block_of, opening, block_in}
 use Rattle.block.specs.Faults.{within, gap_fine}
-use Rattle.block.specs.Reading.{read_groups, read_number, next_entry, on_number, last_entry, read_entries, in_block, in_vouched, in_form}
+use Rattle.block.specs.Reading.{NumberRead, read_groups, read_number, next_entry, on_number, last_entry, read_entries, in_block, in_vouched, in_form}
 use Rattle.block.specs.Promise.{Bytes, Held}
 use Rattle.block.proofs.Numbers.{read_written, written_read, was_tested, zero_bytes}
 use Rattle.block.proofs.Steps.{bit_small, next_bit, next_back, next_apart}
@@ -104,9 +103,9 @@ module _ (v : ℕ) where
   under_after es (entered w fs) h = h
   under_after es (fault why at) h = tt
 
-  under_number : (at : ℕ) (follows : ℕ → ℕ → Outcome) (r : NumberAnswer) → ((n size : ℕ) → Under v (follows n size)) → Under v (on_number at follows r)
-  under_number at follows (Number n size) h = h n size
-  under_number at follows (Bad why) h = tt
+  under_number : (at : ℕ) (follows : ℕ → ℕ → Outcome) (r : NumberRead) → ((n size : ℕ) → Under v (follows n size)) → Under v (on_number at follows r)
+  under_number at follows (Ok (n, size)) h = h n size
+  under_number at follows (Err why) h = tt
 
   under_entries : (left : ℕ) (e : Entry) (at : ℕ) (s : List ℕ) → Under v (read_entries v left e at s)
   unfolding read_entries
@@ -129,16 +128,16 @@ not_entered e = let z : ◌≡◌ {A = ℕ} 0 1 = cc in omega arith
 pub record Numbered (fine : ℕ → Bool) (follows : ℕ → ℕ → Outcome) (s : List ℕ) (o : Outcome) : Type 0 where
   pub n : ℕ
   pub size : ℕ
-  pub is_read : read_groups 3 s ≡ Number n size
+  pub is_read : read_groups 3 s ≡ Ok (n, size)
   pub right : fine n ≡ true
   pub goes : follows n size ≡ o
 
 pub was_number : (at : ℕ) (fine : ℕ → Bool) (follows : ℕ → ℕ → Outcome) (s : List ℕ) {w : ℕ} {es : List Entry} → on_number at follows (read_number fine s) ≡ entered w es → Numbered fine follows s (entered w es)
 was_number at fine follows s {w} {es} e = go (read_number fine s) refl e
   where
-    go : (r : NumberAnswer) → read_number fine s ≡ r → on_number at follows r ≡ entered w es → Numbered fine follows s (entered w es)
-    go (Bad why) q f = absurd (not_entered f)
-    go (Number n size) q f = let t = was_tested fine (read_groups 3 s) q in record { n = n; size = size; is_read = t.0; right = t.1; goes = f }
+    go : (r : NumberRead) → read_number fine s ≡ r → on_number at follows r ≡ entered w es → Numbered fine follows s (entered w es)
+    go (Err why) q f = absurd (not_entered f)
+    go (Ok (n, size)) q f = let t = was_tested fine (read_groups 3 s) q in record { n = n; size = size; is_read = t.0; right = t.1; goes = f }
 
 -- the bytes of that number, and those behind it
 numbered_bytes : {fine : ℕ → Bool} {follows : ℕ → ℕ → Outcome} {s : List ℕ} {o : Outcome} → Bytes s → (m : Numbered fine follows s o) → number_bytes m.n ++ drop m.size s ≡ s

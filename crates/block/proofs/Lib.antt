@@ -1,5 +1,6 @@
 pub mod Masks
 pub mod Numbers
+pub mod Long
 pub mod Steps
 pub mod Blocks
 pub mod Reading

@@ -6,9 +6,9 @@ use mathlib.Core.Bool.{true}
 use mathlib.Core.List.{List, ◌++◌}
 use borrow.Author.Tests.{lt-leb}
 use lib.ListN.{length, take}
+use Rattle.std.specs.Prelude.{Result, Ok, Err}
+use Rattle.answer.specs.declared.Refusal.{Refusal}
 use Rattle.laws.proofs.Cases.{and_l}
-use Rattle.answer.specs.declared.Written.{Written}
-use Rattle.answer.specs.declared.Written.TheVariants.{Wrote, Refused}
 use Rattle.answer.specs.Buffers.{written_results}
 use Rattle.answer.proofs.Orders.{number_some}
 use Rattle.answer.proofs.Promise.{writer}
@@ -33,9 +33,9 @@ use Rattle.block.proofs.Promise.{block_gives, given_is, was_fault, writes}
 -- ---- one move
 
 -- what writing answered, in numbers
-placed_results : (w : Written) → move_results (placed w) ≡ ((written_results w).0, 0, (written_results w).1)
-placed_results (Wrote n) = refl
-placed_results (Refused why) = refl
+placed_results : (w : Result ℕ Refusal) → move_results (placed w) ≡ ((written_results w).0, 0, (written_results w).1)
+placed_results (Ok n) = refl
+placed_results (Err why) = refl
 
 module _ (form : Form) (s : List ℕ) (t : Table) (g : GivesTable form s t) where
   -- a table that is given is what was read

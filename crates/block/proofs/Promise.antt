@@ -8,6 +8,7 @@ use native.Mathlib.Omega.{arith}
 use lib.ListN.{length}
 use lib.Dec.{eqb, lit<}
 use borrow.Author.Tests.{lt-leb, le-leb, ne_eqb, eqb-true, eqb-false}
+use Rattle.std.specs.Prelude.{Ok}
 use Rattle.laws.proofs.Cases.{by_test}
 use Rattle.answer.specs.declared.Refusal.{Refusal}
 use Rattle.answer.specs.declared.Refusal.TheVariants.{Table as TABLE}
@@ -23,7 +24,6 @@ use Rattle.leap.proofs.Facts.{accepted_to}
 use Rattle.leap.proofs.Vouched.{without_month_lem}
 use Rattle.leap.proofs.Entries.{entries_same, table_is}
 use Rattle.leap.proofs.Readers.{was_entered}
-use Rattle.block.specs.declared.NumberAnswer.TheVariants.{Number}
 use Rattle.block.specs.declared.Form.{Form}
 use Rattle.block.specs.declared.Form.TheVariants.{Old, New}
 use Rattle.block.specs.Numbers.{number_bytes}
@@ -121,7 +121,7 @@ unfolding in_block read_groups
 old_zero s = refl
 
 -- nor the new one another number
-new_other : (s : List ℕ) {n size : ℕ} → read_groups 3 s ≡ Number n size → 0 < n → in_form New s ≡ fault TABLE 0
+new_other : (s : List ℕ) {n size : ℕ} → read_groups 3 s ≡ Ok (n, size) → 0 < n → in_form New s ≡ fault TABLE 0
 new_other s {n} e l = rw (e, le-leb 0 n (omega arith), lt-leb n 0 l)
 
 -- a form in which entries are found is that of the first number

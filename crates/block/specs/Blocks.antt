@@ -1,11 +1,10 @@
 -- The block of a table. The old form is the count of entries, then a number for each entry after the first. Nothing follows.
 -- The new form opens with the number 0 and that of the month that the table is vouched for; then comes the old one.
 -- Assumes nothing.
-use Rattle.std.specs.Prelude.{ℕ, ◌+◌, ◌-◌, ◌*◌, List, [], ◌∷◌, ◌++◌, Bool, cond}
+use Rattle.std.specs.Prelude.{ℕ, ◌+◌, ◌-◌, ◌*◌, List, [], ◌∷◌, ◌++◌, Bool, cond, Result}
 use Rattle.std.specs.Int.Signed.{lt_z}
 use Rattle.answer.specs.declared.Refusal.{Refusal}
 use Rattle.answer.specs.declared.Refusal.TheVariants.{Table as TABLE}
-use Rattle.answer.specs.declared.Written.{Written}
 use Rattle.answer.specs.Buffers.{written, buffer_after}
 use Rattle.leap.specs.declared.Table.{Table}
 use Rattle.leap.specs.Leap.{accepted}
@@ -42,19 +41,19 @@ block_in form t = opening form t.vouched ++ block_of t
 abbrev pub block_tests : Table → List (Bool × Refusal)
 block_tests t = (accepted t, TABLE) ∷ []
 
-abbrev pub write_in : Form → Table → List ℕ → Written
+abbrev pub write_in : Form → Table → List ℕ → Result ℕ Refusal
 write_in form t buffer = written (block_tests t) (block_in form t) buffer
 
 abbrev pub write_in_after : Form → Table → List ℕ → List ℕ
 write_in_after form t buffer = buffer_after (block_tests t) (block_in form t) buffer
 
-abbrev pub write_block : Table → List ℕ → Written
+abbrev pub write_block : Table → List ℕ → Result ℕ Refusal
 write_block t buffer = write_in Old t buffer
 
 abbrev pub write_block_after : Table → List ℕ → List ℕ
 write_block_after t buffer = write_in_after Old t buffer
 
-abbrev pub write_new_block : Table → List ℕ → Written
+abbrev pub write_new_block : Table → List ℕ → Result ℕ Refusal
 write_new_block t buffer = write_in New t buffer
 
 abbrev pub write_new_block_after : Table → List ℕ → List ℕ

@@ -2,22 +2,22 @@
 // Its numbers are groups of seven bits, lowest group first, one group to a byte; the top bit marks that more follow.
 #![tactic(auto)]
 
-ghost use Rattle.std.specs.Prelude.{◌≡◌, true, cond, ◌+◌, ◌-◌, ◌<◌, ◌≤◌, ◌^◌, ◌%◌, ltb, length, take, drop, replicate, pos};
+ghost use Rattle.std.specs.Prelude.{◌≡◌, true, cond, Ok, Err, ◌+◌, ◌-◌, ◌<◌, ◌≤◌, ◌^◌, ◌%◌, ltb, length, take, drop};
 ghost use Rattle.std.proofs.lemmas.List.Edits.{sets};
 ghost use Rattle.std.specs.Int.Signed.{mag};
 ghost use Rattle.answer.specs.declared.Refusal.TheVariants.{Table as TABLE};
-ghost use Rattle.leap.specs.Leap.{last_entry_month, tabled, vouched_to, accepted};
+ghost use Rattle.leap.specs.Leap.{last_entry_month, accepted};
 ghost use Rattle.leap.specs.Entries.{first_entry};
 ghost use Rattle.leap.specs.Outcomes.{table_read};
-ghost use Rattle.block.specs.declared.NumberAnswer.TheVariants.{Number, Bad};
+ghost use Rattle.leap.specs.Readers.{no_table};
 ghost use Rattle.block.specs.Numbers.{number_bytes};
 ghost use Rattle.block.specs.Blocks.{step_number, opening, block_in, write_in, write_in_after, write_block, write_block_after, write_new_block, write_new_block_after};
 ghost use Rattle.block.specs.Faults.{within, gap_fine};
-ghost use Rattle.block.specs.Reading.{above, read_groups, read_number, offset_after, read_entries, in_block, in_form, behind, beginning, answered, read_in, read_block, read_new_block, form_of, read_either};
-ghost use Rattle.block.specs.Moves.{placed, move, move_after, renew, renew_after, revert, revert_after};
+ghost use Rattle.block.specs.Reading.{above, read_groups, read_number, number_at, offset_after, read_entries, in_block, in_form, behind, beginning, answered, read_in, read_block, read_new_block, form_of, read_either};
+ghost use Rattle.block.specs.Moves.{move, move_after, renew, renew_after, revert, revert_after};
 
-use answer::{Refusal, Written};
-use leap::{Table, TableRead};
+use answer::{Fault, Refusal};
+use leap::Table;
 
 // The new form opens with the number 0 and that of the month that the table is vouched for; then comes the old form.
 #[derive(Clone, Copy)]
@@ -26,14 +26,7 @@ pub enum Form {
     New,
 }
 
-// A number and how many bytes it has, or why there is none.
-#[derive(Clone, Copy)]
-enum NumberAnswer {
-    Number(u32, usize),
-    Bad(Refusal),
-}
-
-// ---- a number
+// ---- a number, and how many bytes it has
 
 // The seven bits of a group.
 fn group(byte: u8) -> u32
@@ -42,92 +35,70 @@ fn group(byte: u8) -> u32
     (byte & 0x7f) as u32
 }
 
-// Does no other group follow?
-fn is_last(byte: u8) -> bool
-    ensures { result ≡ ltb byte 128 }
+// A number whose first group is that of `first`, with the mark for more: `s` is what follows.
+fn read_long(first: u8, s: &[u8]) -> Result<(u32, usize), Refusal>
+    ensures { result ≡ above (first % 128) (read_groups 2 s.now) }
 {
-    byte & 0x80 == 0
-}
-
-// A number whose first group is that of `first`, with the mark for more: the next stands at `at`.
-fn read_long(first: u8, s: &[u8], at: usize) -> NumberAnswer
-    ensures { result ≡ above (first % 128) (read_groups 2 (drop at s.now)) }
-{
-    if s.len() <= at {
-        return NumberAnswer::Bad(Refusal::Cut);
+    match s {
+        [] => Err(Refusal::Cut),
+        [0, ..] => Err(Refusal::Groups),
+        [second @ ..=0x7f, ..] => Ok((group(*second) << 7 | group(first), 2)),
+        [second, rest @ ..] => match rest {
+            [] => Err(Refusal::Cut),
+            [0 | 0x80.., ..] => Err(Refusal::Groups),
+            [third, ..] => {
+                let high = group(*third) << 7 | group(*second);
+                Ok((high << 7 | group(first), 3))
+            }
+        },
     }
-    let second = s[at];
-    if is_last(second) {
-        if second == 0 {
-            return NumberAnswer::Bad(Refusal::Groups);
-        }
-        return NumberAnswer::Number(group(second) << 7 | group(first), 2);
-    }
-    if s.len() <= at + 1 {
-        return NumberAnswer::Bad(Refusal::Cut);
-    }
-    let third = s[at + 1];
-    if !is_last(third) {
-        return NumberAnswer::Bad(Refusal::Groups);
-    }
-    if third == 0 {
-        return NumberAnswer::Bad(Refusal::Groups);
-    }
-    let high = group(third) << 7 | group(second);
-    NumberAnswer::Number(high << 7 | group(first), 3)
 }
 
 // Most numbers have one group: it is looked at first.
-fn read_any(s: &[u8], at: usize) -> NumberAnswer
-    ensures { result ≡ read_groups 3 (drop at s.now) }
+fn read_any(s: &[u8]) -> Result<(u32, usize), Refusal>
+    ensures { result ≡ read_groups 3 s.now }
 {
-    if s.len() <= at {
-        return NumberAnswer::Bad(Refusal::Cut);
+    match s {
+        [] => Err(Refusal::Cut),
+        [byte @ ..=0x7f, ..] => Ok((group(*byte), 1)),
+        [byte, rest @ ..] => read_long(*byte, rest),
     }
-    let byte = s[at];
-    if is_last(byte) {
-        return NumberAnswer::Number(group(byte), 1);
-    }
-    read_long(byte, s, at + 1)
 }
 
 // A number that was read, by its own test.
-fn tested(fine: bool, n: u32, size: usize) -> NumberAnswer
-    ensures { result ≡ cond fine (Number n size) (Bad TABLE) }
+fn tested(fine: bool, number: (u32, usize)) -> Result<(u32, usize), Refusal>
+    ensures { result ≡ cond fine (Ok number) (Err TABLE) }
 {
     if fine {
-        NumberAnswer::Number(n, size)
+        Ok(number)
     } else {
-        NumberAnswer::Bad(Refusal::Table)
+        Err(Refusal::Table)
     }
 }
 
-// The number at `at`, which is to be from `least` to `most`.
-fn read_number(s: &[u8], at: usize, least: u32, most: u32) -> NumberAnswer
-    ensures { result ≡ read_number (within least most) (drop at s.now) }
+// The number with which `s` begins, which is to be from `least` to `most`.
+fn read_number(s: &[u8], least: u32, most: u32) -> Result<(u32, usize), Refusal>
+    ensures { result ≡ read_number (within least most) s.now }
 {
-    match read_any(s, at) {
-        NumberAnswer::Number(n, size) => tested((least <= n) & (n <= most), n, size),
-        NumberAnswer::Bad(why) => NumberAnswer::Bad(why),
-    }
+    let (n, size) = read_any(s)?;
+    tested((least..=most).contains(&n), (n, size))
 }
 
 // The number of the entry after one of month `before`: a gap of at least a month, and no month past December 9999.
-fn read_gap(s: &[u8], at: usize, before: u32) -> NumberAnswer
+fn read_gap(s: &[u8], before: u32) -> Result<(u32, usize), Refusal>
     requires { before ≤ last_entry_month }
-    ensures { result ≡ read_number (gap_fine before) (drop at s.now) }
+    ensures { result ≡ read_number (gap_fine before) s.now }
 {
-    match read_any(s, at) {
-        NumberAnswer::Number(n, size) => {
-            let gap = n / 2;
-            tested(
-                (0 < gap) & (before + gap <= leap::LAST_ENTRY_MONTH),
-                n,
-                size,
-            )
-        }
-        NumberAnswer::Bad(why) => NumberAnswer::Bad(why),
-    }
+    let (n, size) = read_any(s)?;
+    let gap = n / 2;
+    tested(0 < gap && before + gap <= leap::LAST_ENTRY_MONTH, (n, size))
+}
+
+// What was read as a number at this place, which is that of a fault.
+fn number_at(at: usize, read: Result<(u32, usize), Refusal>) -> Result<(u32, usize), Fault>
+    ensures { result ≡ number_at at read }
+{
+    read.map_err(|why| Fault { why, at })
 }
 
 // Stores `n` at `at`, and gives the place after it.
@@ -139,6 +110,7 @@ fn write_number(n: u32, out: &mut [u8], at: usize) -> usize
 {
     let mut left = n;
     let mut i = at;
+    // while: the number is shifted until one group is left.
     while 0x7f < left {
         out[i] = (left & 0x7f) as u8 | 0x80;
         left = left >> 7;
@@ -158,128 +130,97 @@ fn next_offset(before: i32, n: u32) -> i32
     if n % 2 == 0 { before + 1 } else { before - 1 }
 }
 
-// What was read into the two arrays: how many entries, and the number of the month that they are vouched for; or a fault and its place.
-#[derive(Clone, Copy)]
-enum Filled {
-    Entries(usize, u32),
-    Fault(Refusal, usize),
-}
-
-// Of `count` entries, vouched for up to the month of this number, those after the first are read from place `start` on.
-// The arrays come with zeros, which unused places of a table keep; they are lent, since a table by value is copied.
+// Into a table of nothing: of `count` entries, vouched for up to the month of this number, those after the first, from place `start` on.
+// The table is lent, since one that is handed back by value is copied.
 fn read_entries(
     s: &[u8],
     count: usize,
     start: usize,
     vouched: u32,
-    months: &mut [u32; 64],
-    offsets: &mut [i32; 64],
-) -> Filled
+    t: &mut Table,
+) -> Result<(), Fault>
     requires start_in_bounds { (start ≤ length s.now) × (0 < count) × (count ≤ 64) }
-    requires months_value { (months.old ≡ replicate 64 0) × (offsets.old ≡ replicate 64 (pos 0)) }
-    ensures { answered result months.new offsets.new ≡ table_read (read_entries vouched (count - 1) first_entry start (drop start s.now)) }
+    requires nothing_yet { t.old ≡ no_table }
+    ensures { answered result t.new ≡ table_read (read_entries vouched (count - 1) first_entry start (drop start s.now)) }
 {
-    offsets[0] = 10;
+    t.offsets[0] = 10;
     let mut at = start;
-    let mut k = 0;
-    while k + 1 < count {
-        let before = months[k];
-        match read_gap(s, at, before) {
-            NumberAnswer::Number(n, size) => {
-                let offset = next_offset(offsets[k], n);
-                k += 1;
-                months[k] = before + n / 2;
-                offsets[k] = offset;
-                at += size;
-            }
-            NumberAnswer::Bad(why) => return Filled::Fault(why, at),
-        }
+    // An index: each entry is made from the one before it, in two arrays.
+    for k in 1..count {
+        let before = t.months[k - 1];
+        let (n, size) = number_at(at, read_gap(&s[at..], before))?;
+        t.months[k] = before + n / 2;
+        t.offsets[k] = next_offset(t.offsets[k - 1], n);
+        at += size;
+    }
+    if at < s.len() {
+        return Err(Fault {
+            why: Refusal::Tail,
+            at,
+        });
     }
     // Said last of all, behind a tail.
-    let carried = leap::vouched_right(months[k], vouched);
-    if at < s.len() {
-        return Filled::Fault(Refusal::Tail, at);
+    if !leap::vouched_right(t.months[count - 1], vouched) {
+        return Err(Fault {
+            why: Refusal::Table,
+            at: 1,
+        });
     }
-    if !carried {
-        return Filled::Fault(Refusal::Table, 1);
-    }
-    Filled::Entries(count, vouched)
+    t.count = count;
+    t.vouched = vouched;
+    Ok(())
 }
 
 // The old block at place `start`, vouched for up to the month of this number.
-fn read_from(
-    s: &[u8],
-    start: usize,
-    vouched: u32,
-    months: &mut [u32; 64],
-    offsets: &mut [i32; 64],
-) -> Filled
+fn read_from(s: &[u8], start: usize, vouched: u32, t: &mut Table) -> Result<(), Fault>
     requires start_in_bounds { start ≤ length s.now }
-    requires months_value { (months.old ≡ replicate 64 0) × (offsets.old ≡ replicate 64 (pos 0)) }
-    ensures { answered result months.new offsets.new ≡ table_read (in_block vouched start (drop start s.now)) }
+    requires nothing_yet { t.old ≡ no_table }
+    ensures { answered result t.new ≡ table_read (in_block vouched start (drop start s.now)) }
 {
-    match read_number(s, start, 1, 64) {
-        NumberAnswer::Number(count, size) => {
-            read_entries(s, count as usize, start + size, vouched, months, offsets)
-        }
-        NumberAnswer::Bad(why) => Filled::Fault(why, start),
-    }
+    let (count, size) = number_at(start, read_number(&s[start..], 1, 64))?;
+    read_entries(s, count as usize, start + size, vouched, t)
 }
 
-// Where the old block begins, and the number of the month that is given before it; or a fault and its place.
-#[derive(Clone, Copy)]
-enum Opening {
-    At(usize, u32),
-    Fault(Refusal, usize),
-}
-
-fn read_opening(form: Form, s: &[u8]) -> Opening
+// Where the old block begins, and the number of the month that is given before it.
+fn read_opening(form: Form, s: &[u8]) -> Result<(usize, u32), Fault>
     ensures { (behind result s.now ≡ in_form form s.now) × (beginning result ≤ length s.now) }
 {
     match form {
-        Form::Old => Opening::At(0, 0),
+        Form::Old => Ok((0, 0)),
         Form::New => {
-            if let NumberAnswer::Bad(why) = read_number(s, 0, 0, 0) {
-                return Opening::Fault(why, 0);
-            }
-            match read_number(s, 1, 0, leap::LAST_ENTRY_MONTH + 1) {
-                NumberAnswer::Number(vouched, size) => Opening::At(1 + size, vouched),
-                NumberAnswer::Bad(why) => Opening::Fault(why, 1),
-            }
+            read_number(s, 0, 0)?;
+            let month = read_number(&s[1..], 0, leap::LAST_ENTRY_MONTH + 1);
+            let (vouched, size) = number_at(1, month)?;
+            Ok((1 + size, vouched))
         }
     }
 }
 
-// A whole block of either form, into lent arrays: a move needs no table.
-fn read_whole(form: Form, s: &[u8], months: &mut [u32; 64], offsets: &mut [i32; 64]) -> Filled
-    requires { (months.old ≡ replicate 64 0) × (offsets.old ≡ replicate 64 (pos 0)) }
-    ensures { answered result months.new offsets.new ≡ read_in form s.now }
+// A whole block of either form, into a table of nothing.
+fn read_whole(form: Form, s: &[u8], t: &mut Table) -> Result<(), Fault>
+    requires { t.old ≡ no_table }
+    ensures { answered result t.new ≡ read_in form s.now }
 {
-    match read_opening(form, s) {
-        Opening::At(start, vouched) => read_from(s, start, vouched, months, offsets),
-        Opening::Fault(why, at) => Filled::Fault(why, at),
-    }
+    let (start, vouched) = read_opening(form, s)?;
+    read_from(s, start, vouched, t)
 }
 
 // The table of a block, with the month that a new one has, or the first fault and its place.
-fn read_in(form: Form, s: &[u8]) -> TableRead
+fn read_in(form: Form, s: &[u8]) -> Result<Table, Fault>
     ensures { result ≡ read_in form s.now }
 {
-    let mut months = [0u32; 64];
-    let mut offsets = [0i32; 64];
-    match read_whole(form, s, &mut months, &mut offsets) {
-        Filled::Entries(count, vouched) => leap::found(count, &months, &offsets, vouched),
-        Filled::Fault(why, at) => leap::refused_at(why, at),
-    }
+    let mut table = Table::empty();
+    read_whole(form, s, &mut table)?;
+    Ok(table)
 }
 
-pub fn read_block(s: &[u8]) -> TableRead
+pub fn read_block(s: &[u8]) -> Result<Table, Fault>
     ensures { result ≡ read_block s.now }
 {
     read_in(Form::Old, s)
 }
 
-pub fn read_new_block(s: &[u8]) -> TableRead
+pub fn read_new_block(s: &[u8]) -> Result<Table, Fault>
     ensures { result ≡ read_new_block s.now }
 {
     read_in(Form::New, s)
@@ -289,30 +230,20 @@ pub fn read_new_block(s: &[u8]) -> TableRead
 fn form_of(s: &[u8]) -> Form
     ensures { result ≡ form_of s.now }
 {
-    if s.len() < 1 {
-        return Form::Old;
+    match s {
+        [0, ..] => Form::New,
+        _ => Form::Old,
     }
-    if s[0] == 0 {
-        return Form::New;
-    }
-    Form::Old
 }
 
 // The table of a block of either form.
-pub fn read_either(s: &[u8]) -> TableRead
+pub fn read_either(s: &[u8]) -> Result<Table, Fault>
     ensures { result ≡ read_either s.now }
 {
     read_in(form_of(s), s)
 }
 
 // ---- writing
-
-// A block: the first `len` of the bytes. The opening has at most two numbers, of four bytes, and a table at most 64, of three each.
-#[derive(Clone, Copy)]
-struct Block {
-    bytes: [u8; 196],
-    len: usize,
-}
 
 // Twice the months from an entry to the next, plus 1 where the step is -1.
 fn step_number(month: u32, offset: i32, next_month: u32, next_offset: i32) -> u32
@@ -341,102 +272,66 @@ fn open_block(form: Form, vouched: u32, out: &mut [u8]) -> usize
     }
 }
 
-fn block_in<'a>(
-    form: Form,
-    count: usize,
-    months: &'a [u32; 64],
-    offsets: &'a [i32; 64],
-    vouched: u32,
-) -> Block
-    requires { accepted (vouched_to vouched (tabled count months.now offsets.now)) ≡ true }
-    ensures { (take result.len result.bytes ≡ block_in form (vouched_to vouched (tabled count months.now offsets.now))) × (result.len ≤ 196) × (length result.bytes ≡ 196) }
+// A table's block, in the front of these bytes: the opening has at most two numbers, of four bytes, and a table at most 64, of three each.
+fn block_in<'a>(form: Form, t: &Table, bytes: &'a mut [u8; 196]) -> &'a [u8]
+    requires { accepted t.now ≡ true }
+    ensures { result.now ≡ block_in form t.now }
 {
-    let mut bytes = [0u8; 196];
-    let start = open_block(form, vouched, &mut bytes);
-    let mut len = write_number(count as u32, &mut bytes, start);
-    let mut k = 0;
-    while k + 1 < count {
-        let n = step_number(months[k], offsets[k], months[k + 1], offsets[k + 1]);
-        len = write_number(n, &mut bytes, len);
-        k += 1;
+    let start = open_block(form, t.vouched, bytes);
+    let mut len = write_number(t.count as u32, bytes, start);
+    // An index: each entry stands beside the one before it, in two arrays.
+    for k in 1..t.count {
+        let n = step_number(t.months[k - 1], t.offsets[k - 1], t.months[k], t.offsets[k]);
+        len = write_number(n, bytes, len);
     }
-    Block { bytes, len }
+    &bytes[..len]
 }
 
-// Writes a table's block to the front of `out`, and gives its length. The arrays are lent: a table by value is copied.
-fn write_in<'a>(
-    form: Form,
-    count: usize,
-    months: &'a [u32; 64],
-    offsets: &'a [i32; 64],
-    vouched: u32,
-    out: &mut [u8],
-) -> Written
-    ensures { (result ≡ write_in form (vouched_to vouched (tabled count months.now offsets.now)) out.old) × (out.new ≡ write_in_after form (vouched_to vouched (tabled count months.now offsets.now)) out.old) }
+// Writes a table's block to the front of `out`, and gives its length.
+fn write_in(form: Form, t: &Table, out: &mut [u8]) -> Result<usize, Refusal>
+    ensures { (result ≡ write_in form t.now out.old) × (out.new ≡ write_in_after form t.now out.old) }
 {
-    if !leap::is_accepted_in(count, months, offsets, vouched) {
-        return Written::Refused(Refusal::Table);
+    if !t.is_accepted() {
+        return Err(Refusal::Table);
     }
-    let block = block_in(form, count, months, offsets, vouched);
-    let bytes = block.bytes;
-    let len = block.len;
-    answer::write(&bytes[..len], out)
+    let mut bytes = [0; 196];
+    answer::write(block_in(form, t, &mut bytes), out)
 }
 
-pub fn write_block(t: Table, out: &mut [u8]) -> Written
-    ensures { (result ≡ write_block t out.old) × (out.new ≡ write_block_after t out.old) }
+pub fn write_block(t: &Table, out: &mut [u8]) -> Result<usize, Refusal>
+    ensures { (result ≡ write_block t.now out.old) × (out.new ≡ write_block_after t.now out.old) }
 {
-    write_in(Form::Old, t.count, &t.months, &t.offsets, t.vouched, out)
+    write_in(Form::Old, t, out)
 }
 
-pub fn write_new_block(t: Table, out: &mut [u8]) -> Written
-    ensures { (result ≡ write_new_block t out.old) × (out.new ≡ write_new_block_after t out.old) }
+pub fn write_new_block(t: &Table, out: &mut [u8]) -> Result<usize, Refusal>
+    ensures { (result ≡ write_new_block t.now out.old) × (out.new ≡ write_new_block_after t.now out.old) }
 {
-    write_in(Form::New, t.count, &t.months, &t.offsets, t.vouched, out)
+    write_in(Form::New, t, out)
 }
 
 // ---- moving
 
-// The length of the block that was written, or a refusal and its place.
-#[derive(Clone, Copy)]
-pub enum MoveAnswer {
-    Moved(usize),
-    Refused(Refusal, usize),
-}
-
-// A refusal of the writing is about no byte of the block: its place is 0.
-fn placed(w: Written) -> MoveAnswer
-    ensures { result ≡ placed w }
-{
-    match w {
-        Written::Wrote(n) => MoveAnswer::Moved(n),
-        Written::Refused(why) => MoveAnswer::Refused(why, 0),
-    }
-}
-
 // Writes what a block holds in the other form, vouched for up to the month of this number.
-fn rewrite(from: Form, to: Form, vouched: u32, s: &[u8], out: &mut [u8]) -> MoveAnswer
+// A refusal of the writing is about no byte of the block: its place is 0.
+fn rewrite(from: Form, to: Form, vouched: u32, s: &[u8], out: &mut [u8]) -> Result<usize, Fault>
     ensures { (result ≡ move from to vouched s.now out.old) × (out.new ≡ move_after from to vouched s.now out.old) }
 {
-    let mut months = [0u32; 64];
-    let mut offsets = [0i32; 64];
-    match read_whole(from, s, &mut months, &mut offsets) {
-        Filled::Entries(count, _) => {
-            placed(write_in(to, count, &months, &offsets, vouched, out))
-        }
-        Filled::Fault(why, at) => MoveAnswer::Refused(why, at),
-    }
+    let mut table = Table::empty();
+    read_whole(from, s, &mut table)?;
+    table.vouched = vouched;
+    Ok(write_in(to, &table, out)?)
 }
 
 // The old block as a new one, vouched for up to the month of this number, 0 for none.
-pub fn renew(s: &[u8], vouched: u32, out: &mut [u8]) -> MoveAnswer
+pub fn renew(s: &[u8], vouched: u32, out: &mut [u8]) -> Result<usize, Fault>
     ensures { (result ≡ renew s.now vouched out.old) × (out.new ≡ renew_after s.now vouched out.old) }
 {
     rewrite(Form::Old, Form::New, vouched, s, out)
 }
 
 // The new block as an old one, which has no month.
-pub fn revert(s: &[u8], out: &mut [u8]) -> MoveAnswer
+pub fn revert(s: &[u8], out: &mut [u8]) -> Result<usize, Fault>
     ensures { (result ≡ revert s.now out.old) × (out.new ≡ revert_after s.now out.old) }
 {
     rewrite(Form::New, Form::Old, 0, s, out)

@@ -7,10 +7,10 @@ use native.Mathlib.Nat.{add-zero, add-suc}
 use native.Mathlib.Omega.{arith}
 use borrow.Author.Tests.{leb-true, le-leb}
 use lib.Dec.{leb}
+use Rattle.std.specs.Prelude.{Some, None}
 use Rattle.laws.proofs.Branches.{cond_yes}
 use Rattle.laws.proofs.Cases.{by_order, both, join}
 use Rattle.calendar.specs.declared.MonthDay.{MonthDay}
-use Rattle.calendar.specs.declared.YearDate.TheVariants.{On, Nothing}
 use Rattle.months.specs.Months.{leap_year, month_length, days_before}
 use Rattle.calendar.specs.Days.{month_of_day, day_of_year, year_length}
 use Rattle.calendar.specs.Dates.{month_day, like_year, in_year, date_in_year}
@@ -137,7 +137,7 @@ abbrev year_day : ℕ → MonthDay → ℕ
 year_day y a = day_of_year (12 * y + (a.month - 1)) a.day
 
 -- a date's day of the year has that date
-pub date_back : (y : ℕ) (a : MonthDay) → InYear y a → date_in_year y (year_day y a) ≡ On a
+pub date_back : (y : ℕ) (a : MonthDay) → InYear y a → date_in_year y (year_day y a) ≡ Some a
 unfolding date_in_year
 date_back y a i =
     let m = 12 * y + (a.month - 1) in
@@ -149,14 +149,14 @@ date_back y a i =
     let at : m ≡ month_of_day day = month_is_lem day m (omega arith, omega (arith, i, days_next m)) in
     let month : a.month ≡ month_of_day day % 12 + 1 = omega (arith, i) in
     let date : a.day ≡ day - days_before (month_of_day day) + 1 = omega (arith, i, ap days_before at) in
-    sym (cond_yes Nothing (join (le-leb 1 (year_day y a) (omega (arith, i))) (le-leb (year_day y a) (year_length y) (omega (arith, i, year_days y, days_next m, ap days_before year)))) (ap₂ (λ (x z : ℕ). On (record { month = x; day = z })) month date))
+    sym (cond_yes None (join (le-leb 1 (year_day y a) (omega (arith, i))) (le-leb (year_day y a) (year_length y) (omega (arith, i, year_days y, days_next m, ap days_before year)))) (ap₂ (λ (x z : ℕ). Some (record { month = x; day = z })) month date))
 
 -- a day of the year is that of the date it has
-pub day_back : (y n : ℕ) (a : MonthDay) → date_in_year y n ≡ On a → InYear y a × (year_day y a ≡ n)
+pub day_back : (y n : ℕ) (a : MonthDay) → date_in_year y n ≡ Some a → InYear y a × (year_day y a ≡ n)
 unfolding date_in_year
 day_back y n a e = go (leb 1 n && leb n (year_length y)) refl e
   where
-    go : (b : Bool) → (leb 1 n && leb n (year_length y)) ≡ b → cond b (On (in_year y (n - 1))) Nothing ≡ On a → InYear y a × (year_day y a ≡ n)
+    go : (b : Bool) → (leb 1 n && leb n (year_length y)) ≡ b → cond b (Some (in_year y (n - 1))) None ≡ Some a → InYear y a × (year_day y a ≡ n)
     go true p q =
         let r = both (leb 1 n) (leb n (year_length y)) p in
         let low = leb-true 1 n r.0 in

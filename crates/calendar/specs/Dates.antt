@@ -1,12 +1,10 @@
 -- The answers of the calendar's functions, as the program's own types.
 -- Assumes nothing.
-use Rattle.std.specs.Prelude.{cond, ◌&&◌, ℕ, ◌+◌, ◌-◌, ◌*◌, ◌%◌, leb}
+use Rattle.std.specs.Prelude.{cond, ◌&&◌, ℕ, ◌+◌, ◌-◌, ◌*◌, ◌%◌, leb, Option, Some, None}
 use Rattle.months.specs.Months.{leap_year, month_length, days_before}
 use Rattle.calendar.specs.Days.{month_of_day, year_length}
 use Rattle.calendar.specs.declared.Span.{Span}
 use Rattle.calendar.specs.declared.MonthDay.{MonthDay}
-use Rattle.calendar.specs.declared.YearDate.{YearDate}
-use Rattle.calendar.specs.declared.YearDate.TheVariants.{On, Nothing}
 
 abbrev pub month_span : ℕ → Span
 month_span m = record { number = m; start = days_before m; length = month_length m }
@@ -28,5 +26,5 @@ abbrev pub in_year : ℕ → ℕ → MonthDay
 in_year y n = record { month = month_of_day (days_before (12 * y) + n) % 12 + 1; day = (month_day (days_before (12 * y) + n)).day }
 
 -- day d of year y, counted from 1, if the year has it
-unfoldable pub date_in_year : ℕ → ℕ → YearDate
-date_in_year y d = cond (leb 1 d && leb d (year_length y)) (On (in_year y (d - 1))) Nothing
+unfoldable pub date_in_year : ℕ → ℕ → Option MonthDay
+date_in_year y d = cond (leb 1 d && leb d (year_length y)) (Some (in_year y (d - 1))) None

@@ -1,63 +1,56 @@
-// The calls by number: a table from bytes, then bytes from a writer or a move, then the calls whose answers are numbers.
-pub(crate) const READ_BLOCK: usize = 0;
+// The calls as lines name them.
 
-pub(crate) const READ_NEW_BLOCK: usize = 1;
-
-pub(crate) const READ_KERNEL: usize = 2;
-
-pub(crate) const READ_CARDS: usize = 3;
-
-pub(crate) const WRITE_TEXT: usize = 4;
-
-pub(crate) const WRITE_BLOCK: usize = 5;
-
-pub(crate) const WRITE_NEW_BLOCK: usize = 6;
-
-pub(crate) const WRITE_KERNEL: usize = 7;
-
-pub(crate) const WRITE_CARDS: usize = 8;
-
-pub(crate) const RENEW: usize = 9;
-
-pub(crate) const REVERT: usize = 10;
-
-pub(crate) const TABLE: usize = 11;
-
-pub(crate) const READ_TEXT: usize = 12;
-
-pub(crate) const INSTANT_OF: usize = 13;
-
-pub(crate) const STAMP_OF: usize = 14;
-
-pub(crate) const READ_JULIAN: usize = 15;
-
-pub(crate) const WRITE_JULIAN: usize = 16;
-
-pub(crate) const START: usize = 17;
-
-pub(crate) const TICK: usize = 18;
-
-pub(crate) const VOUCH: usize = 19;
-
-const NAMES: [u8; 320] =
-    *b"read_block      read_new_block  read_kernel     read_cards      write_text      write_block     write_new_block write_kernel    write_cards     renew           revert          table           read_text       instant_of      stamp_of        read_julian     write_julian    start           tick            vouch           ";
-
-// Whether a word stands in the names from index `at` on, before a blank.
-fn is_at(word: &[u8], names: &[u8], at: usize) -> bool {
-    let from = lines::front(names, at);
-    let end = lines::until(names, from, 32);
-    check::same(word, &names[from..end])
+// What bytes hold a table.
+#[derive(Clone, Copy, Debug, PartialEq, Eq)]
+pub enum Form {
+    Block,
+    NewBlock,
+    Kernel,
+    Cards,
 }
 
-// The number of the call that a word names; 20 for none.
-pub(crate) fn call_of(word: &[u8]) -> usize {
-    let names = NAMES;
-    let mut i = 0;
-    while i < 20 {
-        if is_at(word, &names, i * 16) {
-            return i;
+#[derive(Clone, Copy, Debug, PartialEq, Eq)]
+pub enum Call {
+    Read(Form),
+    Write(Form),
+    WriteText,
+    Renew,
+    Revert,
+    Table,
+    Vouch,
+    ReadText,
+    InstantOf,
+    StampOf,
+    ReadJulian,
+    WriteJulian,
+    Start,
+    Tick,
+}
+
+impl Call {
+    pub(crate) fn named(word: &[u8]) -> Option<Call> {
+        match word {
+            b"read_block" => Some(Call::Read(Form::Block)),
+            b"read_new_block" => Some(Call::Read(Form::NewBlock)),
+            b"read_kernel" => Some(Call::Read(Form::Kernel)),
+            b"read_cards" => Some(Call::Read(Form::Cards)),
+            b"write_text" => Some(Call::WriteText),
+            b"write_block" => Some(Call::Write(Form::Block)),
+            b"write_new_block" => Some(Call::Write(Form::NewBlock)),
+            b"write_kernel" => Some(Call::Write(Form::Kernel)),
+            b"write_cards" => Some(Call::Write(Form::Cards)),
+            b"renew" => Some(Call::Renew),
+            b"revert" => Some(Call::Revert),
+            b"table" => Some(Call::Table),
+            b"read_text" => Some(Call::ReadText),
+            b"instant_of" => Some(Call::InstantOf),
+            b"stamp_of" => Some(Call::StampOf),
+            b"read_julian" => Some(Call::ReadJulian),
+            b"write_julian" => Some(Call::WriteJulian),
+            b"start" => Some(Call::Start),
+            b"tick" => Some(Call::Tick),
+            b"vouch" => Some(Call::Vouch),
+            _ => None,
         }
-        i += 1;
     }
-    20
 }

@@ -1,111 +1,93 @@
-// Standard input in chunks, whose lines are answered.
-use crate::answers::{State, answer};
+// Standard input in chunks, whose lines are answered. Memory is constant: std's lines and BufReader would put a line of any length on the heap.
+// The reading is like that of `desk`, not shared: the state that is carried differs, and there is no contract to share.
+use crate::answers::answer;
+use crate::output::Output;
+use leap::Table;
+use std::io;
 use std::io::Read;
 
 fn complain(rt: &HostRuntime, text: &str) {
     let _ = rt.eprintln(text);
 }
 
-// Writes the answers out. Where that fails there is nothing more to do.
-fn flush(rt: &HostRuntime, out: &[u8], state: State) -> State {
-    let mut s = state;
-    let n = lines::front(out, s.used);
-    s.used = 0;
-    if rt.write_all(&out[..n]).is_err() {
-        complain(rt, "calls: the output cannot be written");
-        s.open = false;
-    }
-    s
+// What stands between two chunks: the bytes held of a line, the answers so far and the table.
+#[derive(Drop)]
+struct Session {
+    line: [u8; 140001],
+    held: usize,
+    out: Output,
+    table: Table,
 }
 
-// Answers are written out first where there are 40 KiB or more of them. An answer has below 20.
-fn room(rt: &HostRuntime, out: &[u8], s: State) -> State {
-    if s.used < 40960 {
-        return s;
+impl Session {
+    fn new() -> Session {
+        Session {
+            line: [0; 140001],
+            held: 0,
+            out: Output::new(),
+            table: leap::bulletin_c(),
+        }
     }
-    flush(rt, out, s)
+
+    // Answers the line that is held. One that fills its buffer is over-long, and answered as an empty line is.
+    fn answer_line(&mut self, rt: &HostRuntime) -> io::Result<()> {
+        if !self.out.has_room() {
+            self.out.flush(rt)?;
+        }
+        let n = if self.held < self.line.len() {
+            self.held
+        } else {
+            0
+        };
+        answer(&self.line[..n], &mut self.table, &mut self.out);
+        self.held = 0;
+        Ok(())
+    }
+
+    // Answers every line that ends in the chunk, and writes the answers out. while: `take_line` says where the next line begins.
+    fn answer_chunk(&mut self, rt: &HostRuntime, chunk: &[u8]) -> io::Result<()> {
+        let mut at = 0;
+        while at < chunk.len() {
+            let cut = lines::take_line(chunk, at, &mut self.line, self.held);
+            at = cut.at;
+            self.held = cut.len;
+            if cut.ended {
+                self.answer_line(rt)?;
+            }
+        }
+        self.out.flush(rt)
+    }
+
+    // The last line may lack its end.
+    fn end(&mut self, rt: &HostRuntime) -> io::Result<()> {
+        if self.held == 0 {
+            return Ok(());
+        }
+        self.answer_chunk(rt, b"\n")
+    }
 }
 
-// The bytes of a line; none of one that fills its buffer: it is over-long, and answered as an empty line is.
-fn held(len: usize, size: usize) -> usize {
-    if len < size {
-        return len;
-    }
-    0
-}
-
-fn answer_line(rt: &HostRuntime, line: &[u8], state: State, out: &mut [u8]) -> State {
-    let n = lines::front(line, held(state.len, line.len()));
-    let s = room(rt, out, state);
-    if !s.open {
-        return s;
-    }
-    answer(&line[..n], s.table, out, s.used)
-}
-
-// Answers every line that ends in the chunk, and writes the answers out.
-fn answer_chunk(rt: &HostRuntime, chunk: &[u8], line: &mut [u8], state: State) -> State {
-    let mut out = [0u8; 65536];
-    let mut s = state;
-    let mut at = 0;
-    while at < chunk.len() {
-        let t = lines::take_line(chunk, at, line, s.len);
-        at = t.at;
-        s.len = t.len;
-        if t.ended {
-            s = answer_line(rt, line, s, &mut out);
-            if !s.open {
-                return s;
+// Reads and answers to the end of the input: what came of one read is answered before the next. A read that fails is told, and is the end of the input.
+// A proved loop has to end, and nothing says that the input does: the reads are counted up to a number that no run reaches.
+fn answer_all(rt: &HostRuntime) -> io::Result<()> {
+    let mut session = Session::new();
+    let mut chunk = [0u8; 65536];
+    for _ in 0..u64::MAX {
+        match rt.stdin().read(&mut chunk) {
+            Ok(0) => break,
+            Ok(n) => session.answer_chunk(rt, &chunk[..n])?,
+            Err(_) => {
+                complain(rt, "calls: the input cannot be read");
+                break;
             }
         }
     }
-    flush(rt, &out, s)
+    session.end(rt)
 }
 
-// The last line may lack its end.
-fn end_input(rt: &HostRuntime, line: &mut [u8], state: State) -> State {
-    let mut s = state;
-    if s.len != 0 {
-        s = answer_chunk(rt, b"\n", line, s);
+// Where the output cannot be written there is nothing more to do.
+pub(crate) fn answer_input(rt: &HostRuntime) {
+    if answer_all(rt).is_err() {
+        complain(rt, "calls: the output cannot be written");
     }
-    s.open = false;
-    s
-}
-
-// One read: what came is answered before the next read. A read that fails is told, and is the end of the input.
-fn one_turn(rt: &HostRuntime, line: &mut [u8], state: State) -> State {
-    let mut chunk = [0u8; 65536];
-    match rt.stdin().read(&mut chunk) {
-        Ok(0) => end_input(rt, line, state),
-        Ok(n) => answer_chunk(rt, &chunk[..n], line, state),
-        Err(_) => {
-            complain(rt, "calls: the input cannot be read");
-            end_input(rt, line, state)
-        }
-    }
-}
-
-// Reads and answers to the end of the input. A proved loop has to end, and nothing says that the input does: the turns are
-// counted down from a number that no run uses up.
-fn run(rt: &HostRuntime, line: &mut [u8], state: State) {
-    let mut s = state;
-    let mut turns = u64::MAX;
-    while turns > 0 {
-        s = one_turn(rt, line, s);
-        if !s.open {
-            return;
-        }
-        turns -= 1;
-    }
-}
-
-pub(crate) fn pump(rt: &HostRuntime) {
-    let mut line = [0u8; 140001];
-    let start = State {
-        open: true,
-        len: 0,
-        used: 0,
-        table: leap::bulletin_c(),
-    };
-    run(rt, &mut line, start);
 }

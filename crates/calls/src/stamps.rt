@@ -1,135 +1,89 @@
-// Instants, stamps and the clock.
-use crate::said::{Said, marks_of, refused, said_numbers};
-use clock::{MarkedTick, TickAnswer};
-use fields::Cursor;
+// Instants, stamps, their texts and the clock: NO, the numbers of an answer, zeros for those of a refusal, and MARKS.
+use crate::output::Output;
+use crate::words::Words;
+use answer::Marked;
 use labels::{Label, Reading};
 use leap::Table;
-use stamp::{InstantAnswer, MarkedInstant, MarkedStamp, Stamp, StampAnswer};
+use stamp::Stamp;
 
-#[derive(Clone, Copy)]
-pub struct LabelField {
-    pub value: Label,
-    pub next: Cursor,
-}
-
-fn label_field(line: &[u8], c: Cursor) -> LabelField {
-    let year = fields::u32_field(line, c);
-    let month = fields::u32_field(line, year.next);
-    let day = fields::u32_field(line, month.next);
-    let hour = fields::u32_field(line, day.next);
-    let minute = fields::u32_field(line, hour.next);
-    let second = fields::u32_field(line, minute.next);
-    let value = Label {
-        year: year.value,
-        month: month.value,
-        day: day.value,
-        hour: hour.value,
-        minute: minute.value,
-        second: second.value,
-    };
-    let next = second.next;
-    LabelField { value, next }
-}
-
-pub(crate) fn said_instant(m: MarkedInstant, next: Cursor) -> Said {
-    let marks = marks_of(m.beyond);
-    let a = m.answer;
-    match a {
-        InstantAnswer::At(x) => said_numbers(3, [0, x, marks, 0, 0, 0, 0, 0, 0, 0, 0], next),
-        InstantAnswer::Refused(why) => refused(3, why, next),
-    }
+// NO INSTANT MARKS
+pub(crate) fn tell_instant(told: Marked<i64>, out: &mut Output) {
+    out.refusal(told.answer.err());
+    out.number(told.answer.unwrap_or(0));
+    out.marks(told.beyond);
 }
 
 // instant_of SCALE Y MO D H MI S US
-pub(crate) fn instant_of(line: &[u8], c: Cursor, t: Table) -> Said {
-    let scale = fields::u32_field(line, c);
-    let l = label_field(line, scale.next);
-    let micro = fields::u32_field(line, l.next);
-    let label = l.value;
-    let r = Reading {
-        label,
-        micro: micro.value,
-    };
-    said_instant(stamp::instant_of(t, scale.value, r), micro.next)
+pub(crate) fn instant_of(words: &mut Words, t: &Table, out: &mut Output) -> Option<()> {
+    let scale = words.next_u32();
+    let label = words.next_label();
+    let micro = words.next_u32();
+    words.end()?;
+    tell_instant(stamp::instant_of(t, scale, Reading { label, micro }), out);
+    Some(())
 }
 
-// 0, a number, those of a stamp, and its marks.
-pub(crate) fn stamp_numbers(first: i64, z: Stamp, marks: i64) -> [i64; 11] {
-    let s = z.scale;
-    let n = s.number() as i64;
-    let r = z.reading;
-    let l = r.label;
-    [
-        0,
-        first,
-        n,
-        l.year as i64,
-        l.month as i64,
-        l.day as i64,
-        l.hour as i64,
-        l.minute as i64,
-        l.second as i64,
-        r.micro as i64,
-        marks,
-    ]
+// Y MO D H MI S
+fn label_numbers(l: Label) -> [i64; 6] {
+    [l.year, l.month, l.day, l.hour, l.minute, l.second].map(i64::from)
 }
 
-// The numbers from the second on: it is the 0 of no refusal.
-fn said_stamp(z: Stamp, marks: i64, next: Cursor) -> Said {
-    let mut s = said_numbers(11, stamp_numbers(0, z, marks), next);
-    s.from = 1;
-    s
+// SCALE Y MO D H MI S US
+fn stamp_numbers(stamp: Stamp) -> [i64; 8] {
+    let scale = i64::from(u32::from(stamp.scale));
+    let [year, month, day, hour, minute, second] = label_numbers(stamp.reading.label);
+    let micro = i64::from(stamp.reading.micro);
+    [scale, year, month, day, hour, minute, second, micro]
 }
 
-fn stamped(m: MarkedStamp, next: Cursor) -> Said {
-    let marks = marks_of(m.beyond);
-    let a = m.answer;
-    match a {
-        StampAnswer::Stamped(z) => said_stamp(z, marks, next),
-        StampAnswer::Refused(why) => refused(10, why, next),
-    }
+// stamp_of INSTANT SCALE: NO SCALE Y MO D H MI S US MARKS
+pub(crate) fn stamp_of(words: &mut Words, t: &Table, out: &mut Output) -> Option<()> {
+    let instant = words.next_i64();
+    let scale = words.next_u32();
+    words.end()?;
+    let told = stamp::stamp_of(t, instant, scale);
+    out.refusal(told.answer.err());
+    out.numbers(&told.answer.map_or([0; 8], stamp_numbers));
+    out.marks(told.beyond);
+    Some(())
 }
 
-// stamp_of INSTANT SCALE
-pub(crate) fn stamp_of(line: &[u8], c: Cursor, t: Table) -> Said {
-    let x = fields::i64_field(line, c);
-    let scale = fields::u32_field(line, x.next);
-    stamped(stamp::stamp_of(t, x.value, scale.value), scale.next)
+// read_text SCALE HEX: NO INSTANT SCALE Y MO D H MI S US MARKS
+pub(crate) fn read_text(words: &mut Words, t: &Table, out: &mut Output) -> Option<()> {
+    let mut bytes = [0u8; 70000];
+    let scale = words.next_u32();
+    let size = words.next_bytes(&mut bytes);
+    words.end()?;
+    let told = text::read_text(t, scale, &bytes[..size]);
+    out.refusal(told.answer.err());
+    out.number(told.answer.map_or(0, |(instant, _)| instant));
+    out.numbers(
+        &told
+            .answer
+            .map_or([0; 8], |(_, stamp)| stamp_numbers(stamp)),
+    );
+    out.marks(told.beyond);
+    Some(())
 }
 
-fn label_numbers(l: Label, marks: i64) -> [i64; 11] {
-    [
-        0,
-        l.year as i64,
-        l.month as i64,
-        l.day as i64,
-        l.hour as i64,
-        l.minute as i64,
-        l.second as i64,
-        marks,
-        0,
-        0,
-        0,
-    ]
-}
-
-fn ticked(m: MarkedTick, next: Cursor) -> Said {
-    let marks = marks_of(m.beyond);
-    let a = m.answer;
-    match a {
-        TickAnswer::Next(l) => said_numbers(8, label_numbers(l, marks), next),
-        TickAnswer::Refused(why) => refused(8, why, next),
-    }
+// NO Y MO D H MI S MARKS
+fn tell_label(told: Marked<Label>, out: &mut Output) {
+    out.refusal(told.answer.err());
+    out.numbers(&told.answer.map_or([0; 6], label_numbers));
+    out.marks(told.beyond);
 }
 
 // start
-pub(crate) fn start(c: Cursor, t: Table) -> Said {
-    ticked(clock::start(t), c)
+pub(crate) fn start(words: &Words, t: &Table, out: &mut Output) -> Option<()> {
+    words.end()?;
+    tell_label(clock::start(t), out);
+    Some(())
 }
 
 // tick Y MO D H MI S
-pub(crate) fn tick(line: &[u8], c: Cursor, t: Table) -> Said {
-    let l = label_field(line, c);
-    let value = l.value;
-    ticked(clock::tick(t, value), l.next)
+pub(crate) fn tick(words: &mut Words, t: &Table, out: &mut Output) -> Option<()> {
+    let label = words.next_label();
+    words.end()?;
+    tell_label(clock::tick(t, label), out);
+    Some(())
 }

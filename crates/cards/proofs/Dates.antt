@@ -7,6 +7,7 @@ use mathlib.Core.List.{List}
 use native.Mathlib.Omega.{arith}
 use borrow.Author.Tests.{le-leb, leb-true}
 use lib.Dec.{leb}
+use Rattle.std.specs.Prelude.{Some, None}
 use Rattle.laws.specs.Tests.{all_below}
 use Rattle.laws.proofs.Branches.{cond_yes}
 use Rattle.laws.proofs.Cases.{chosen, pick<, both, join, below}
@@ -16,7 +17,6 @@ use Rattle.calendar.specs.Dates.{like_year}
 use Rattle.calendar.proofs.Years.{like_month}
 use Rattle.digits.specs.Bytes.{same_bytes}
 use Rattle.digits.specs.Decimals.{number_at}
-use Rattle.digits.specs.declared.Number.TheVariants.{Is, Bad}
 use Rattle.digits.proofs.Bytes.{same_true, same_self}
 use Rattle.digits.proofs.Decimals.{padded}
 use Rattle.leap.specs.Leap.{epoch}
@@ -69,17 +69,17 @@ module _ (m : ℕ) (h : m ≤ last_card_month) where
       let q : number_at (card_date m) 2 3 / 30 ≡ m % 12 = omega arith in
       omega (arith, year_back)
 
-pub date_there : (s : List ℕ) (m : ℕ) → s ≡ card_date m → m ≤ last_card_month → date_in s ≡ Is m
+pub date_there : (s : List ℕ) (m : ℕ) → s ≡ card_date m → m ≤ last_card_month → date_in s ≡ Some m
 unfolding date_in
 date_there s m e h =
     let back = month_back m h in
     ap date_in e
-    ∙ sym (cond_yes Bad
+    ∙ sym (cond_yes None
     (join (le-leb 1972 (year_in (card_date m)) (omega (arith, year_back m h)))
     (join (le-leb (month_in (card_date m)) last_card_month (omega arith)) (ap (λ (k : ℕ). same_bytes (card_date k) (card_date m)) back ∙ same_self (card_date m))))
-    (ap Is (sym back)))
+    (ap Some (sym back)))
 
-pub date_was : (s : List ℕ) {m : ℕ} → date_in s ≡ Is m → (s ≡ card_date m) × (m ≤ last_card_month)
+pub date_was : (s : List ℕ) {m : ℕ} → date_in s ≡ Some m → (s ≡ card_date m) × (m ≤ last_card_month)
 unfolding date_in
 date_was s {m} e =
     let w = chosen (leb 1972 (year_in s) && (leb (month_in s) last_card_month && same_bytes (card_date (month_in s)) s)) (λ p. let z : ◌≡◌ {A = ℕ} 0 1 = cc in omega arith) e in

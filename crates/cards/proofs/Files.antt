@@ -7,11 +7,12 @@ use mathlib.Core.Bool.{true, false, cond}
 use mathlib.Core.List.{List, [], ◌∷◌, ◌++◌, reverse, append_assoc, append-nil, reverse-reverse}
 use native.Mathlib.Omega.{arith}
 use lib.ListN.{length}
+use Rattle.std.specs.Prelude.{Result}
 use Rattle.laws.proofs.Cases.{pick, by_test, or_l, or_r}
 use Rattle.answer.specs.declared.Refusal.TheVariants.{Card as CARD}
 use Rattle.digits.specs.Decimals.{signed}
 use Rattle.leap.specs.declared.Table.{Table}
-use Rattle.leap.specs.declared.TableRead.{TableRead}
+use Rattle.answer.specs.declared.Fault.{Fault}
 use Rattle.leap.specs.Leap.{accepted}
 use Rattle.leap.specs.Entries.{Entry, table_of}
 use Rattle.leap.specs.Readers.{refused_at, judged, table_results}
@@ -55,7 +56,7 @@ card_step : (es : List Entry) (at : ℕ) {line : List ℕ} (lines : List (List �
 unfolding read_lines
 card_step es at {line} lines {e} c i =
     let f = card_shown line e c in
-    let next : Entry → TableRead = λ x. cond (in_order (es ++ x ∷ [])) (read_lines (es ++ x ∷ []) (at + (length line + 1)) lines) (refused_at CARD at) in
+    let next : Entry → (Result Table Fault) = λ x. cond (in_order (es ++ x ∷ [])) (read_lines (es ++ x ∷ []) (at + (length line + 1)) lines) (refused_at CARD at) in
     rw (card_not_passed line e c, f.2) (ap next (same_entry refl (sym f.3)) ∙ rw i)
 
 read_on : {before : List (List ℕ)} {fs : List Entry} → Shown before fs → (es : List Entry) (at : ℕ) (after : List (List ℕ)) → in_order (es ++ fs) ≡ true → read_lines es at (before ++ after) ≡ read_lines (es ++ fs) (at + place_behind before) after

@@ -10,17 +10,15 @@ use borrow.Author.Tests.{eq-eqb, eqb-true}
 use lib.Dec.{eqb}
 use lib.ListN.{length, take, drop, get_or, length-take, get_or-replicate}
 use lib.Seq.{drop-cons}
+use Rattle.std.specs.Prelude.{Option, Some, None}
 use Rattle.laws.proofs.Branches.{cond_yes}
 use Rattle.laws.proofs.Cases.{chosen, by_test, both, join, one_of}
 use Rattle.digits.specs.Bytes.{ascii}
 use Rattle.digits.specs.Decimals.{signed}
-use Rattle.digits.specs.declared.Number.{Number}
-use Rattle.digits.specs.declared.Number.TheVariants.{Is, Bad}
 use Rattle.leap.specs.Entries.{Entry}
 use Rattle.columns.specs.declared.Decimal.{Decimal}
-use Rattle.columns.specs.declared.Decimal.TheVariants.{Plain as PLAIN, Not as NOT}
 use Rattle.columns.specs.Columns.{columns, all_blank, passed_over}
-use Rattle.columns.specs.Decimals.{decimal_in, whole_of}
+use Rattle.columns.specs.Decimals.{found, decimal_in, whole_of}
 use Rattle.columns.proofs.Decimals.{blank_blanks}
 use Rattle.columns.proofs.Wholes.{whole_is, whole_was}
 use Rattle.cards.specs.Card.{Card}
@@ -71,21 +69,21 @@ module _ (line : List ℕ) (h : length line ≡ 80) where
 -- ---- the month and TAI-UTC
 
 -- what the date and TAI-UTC are where they give a card
-record Gave (d : Number) (x : Decimal) (m : ℕ) (negative : Bool) (n : ℕ) : Type 0 where
+record Gave (d : Option ℕ) (x : Option Decimal) (m : ℕ) (negative : Bool) (n : ℕ) : Type 0 where
   number : ℕ
   places : ℕ
-  date : d ≡ Is m
-  shown : x ≡ PLAIN negative number places
-  whole : whole_of number places ≡ Is n
+  date : d ≡ Some m
+  shown : x ≡ found negative number places
+  whole : whole_of number places ≡ Some n
 
-gave : (d : Number) (x : Decimal) {m : ℕ} {negative : Bool} {n : ℕ} → dated d x ≡ a_card m negative n → Gave d x m negative n
-gave (Is k) (PLAIN negative number places) {m} {negative = neg} {n} e = go (whole_of number places) refl e
+gave : (d : Option ℕ) (x : Option Decimal) {m : ℕ} {negative : Bool} {n : ℕ} → dated d x ≡ a_card m negative n → Gave d x m negative n
+gave (Some k) (Some d) {m} {negative = neg} {n} e = go (whole_of d.number d.places) refl e
   where
-    go : (w : Number) → whole_of number places ≡ w → sized k negative w ≡ a_card m neg n → Gave (Is k) (PLAIN negative number places) m neg n
-    go (Is i) p q = record { number = number; places = places; date = cc; shown = cc; whole = cc }
-    go Bad p q = let z : ◌≡◌ {A = ℕ} 0 1 = cc in absurd (omega arith)
-gave (Is k) NOT e = let z : ◌≡◌ {A = ℕ} 0 1 = cc in absurd (omega arith)
-gave Bad x e = let z : ◌≡◌ {A = ℕ} 0 1 = cc in absurd (omega arith)
+    go : (w : Option ℕ) → whole_of d.number d.places ≡ w → sized k d.minus w ≡ a_card m neg n → Gave (Some k) (Some d) m neg n
+    go (Some i) p q = let minus : d.minus ≡ neg = cc in record { number = d.number; places = d.places; date = cc; shown = ap (λ (b : Bool). found b d.number d.places) minus; whole = cc }
+    go None p q = let z : ◌≡◌ {A = ℕ} 0 1 = cc in absurd (omega arith)
+gave (Some k) None e = let z : ◌≡◌ {A = ℕ} 0 1 = cc in absurd (omega arith)
+gave None x e = let z : ◌≡◌ {A = ℕ} 0 1 = cc in absurd (omega arith)
 
 -- ---- the line
 

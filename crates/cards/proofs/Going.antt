@@ -8,13 +8,15 @@ use mathlib.Core.List.{List, [], ◌∷◌, ◌++◌, reverse}
 use native.Mathlib.Omega.{arith}
 use lib.Dec.{ltb}
 use lib.IntN.{ℤ, pos}
-use lib.ListN.{length, drop, set, length-reverse}
+use lib.ListN.{length, drop, length-reverse}
 use lib.Signed.{mag}
+use Rattle.std.specs.Prelude.{Option, Some, None}
+use borrow.Author.Tests.{lt-ltb, le-ltb}
 use Rattle.laws.proofs.Cases.{by_order}
 use Rattle.answer.specs.declared.Refusal.TheVariants.{Table as TABLE, Card as CARD}
 use Rattle.digits.specs.Decimals.{signed}
-use Rattle.leap.specs.Leap.{tabled}
-use Rattle.leap.specs.Entries.{Entry, table_of}
+use Rattle.leap.specs.Leap.{tabled, vouched_to}
+use Rattle.leap.specs.Entries.{Entry, entries, table_of}
 use Rattle.leap.specs.Readers.{refused_at, judged}
 use Rattle.leap.proofs.Entries.{Holds, holds_more, holds_table, entries_of}
 use Rattle.leap.proofs.Kept.{SameOrLarge, Kept, kept_append, kept_long, kept_reverse, kept_judged}
@@ -23,67 +25,39 @@ use Rattle.lines.specs.Words.{before}
 use Rattle.columns.specs.Lines.{lines_of}
 use Rattle.columns.specs.Columns.{passed_over}
 use Rattle.columns.proofs.Lines.{lines_step, lines_end}
-use Rattle.cards.specs.declared.LineAnswer.{LineAnswer}
-use Rattle.cards.specs.declared.LineAnswer.TheVariants.{Passed as PASSED, Entry as ENTRY, Bad as BAD}
-use Rattle.cards.specs.Reading.{Found, a_card, no_card, card_in, kept, kept_card, line_in, in_order, turned, read_lines, read_cards}
+use Rattle.cards.specs.declared.Deck.{Deck}
+use Rattle.cards.specs.Reading.{Found, a_card, no_card, card_in, kept, kept_card, no_cards, put, crowded, added, in_order, turned, read_lines, read_cards}
 use Rattle.cards.proofs.Orders.{Ordered, ordered_none, oldest_is, ordered_next, ordered_full}
 use Rattle.cards.proofs.Turned.{turned_many}
 
 -- ---- what a line was
 
-abbrev month : LineAnswer → ℕ
-month PASSED = 0
-month (ENTRY m o) = m
-month BAD = 0
+-- the entry that is kept, if one is
+abbrev held : Option Entry → Entry
+held (Some e) = e
+held None = (0, pos 0)
 
-abbrev offset : LineAnswer → ℤ
-offset PASSED = pos 0
-offset (ENTRY m o) = o
-offset BAD = pos 0
-
--- a card is neither passed over nor bad
-abbrev Is : LineAnswer → LineAnswer → Type 0
-Is PASSED PASSED = Unit {0}
-Is PASSED (ENTRY m o) = ⊥
-Is PASSED BAD = ⊥
-Is (ENTRY m o) PASSED = ⊥
-Is (ENTRY m o) (ENTRY n p) = Unit {0}
-Is (ENTRY m o) BAD = ⊥
-Is BAD PASSED = ⊥
-Is BAD (ENTRY n p) = ⊥
-Is BAD BAD = Unit {0}
+-- a card of which this entry is kept
+pub record WasEntry (line : List ℕ) (m : ℕ) (o : ℤ) : Type 0 where
+  pub negative : Bool
+  pub size : ℕ
+  pub is_card : card_in line ≡ a_card m negative size
+  pub is_kept : o ≡ signed negative (kept size)
 
 module _ (line : List ℕ) where
-  pub was_passed : line_in line ≡ PASSED → passed_over line ≡ true
-  was_passed e = go (passed_over line) refl (card_in line) (subst (λ a. Is a PASSED) (sym e) tt)
+  pub was_bad : kept_card (card_in line) ≡ None → card_in line ≡ no_card
+  was_bad e = go (card_in line) refl e
     where
-      go : (t : Bool) → passed_over line ≡ t → (f : Found) → Is (cond t PASSED (kept_card f)) PASSED → passed_over line ≡ true
-      go true p f h = p
-      go false p (a_card m negative n) h = absurd h
-      go false p no_card h = absurd h
+      go : (f : Found) → card_in line ≡ f → kept_card f ≡ None → card_in line ≡ no_card
+      go (a_card m negative n) q h = let z : ◌≡◌ {A = ℕ} 0 1 = cc in absurd (omega arith)
+      go no_card q h = q
 
-  pub was_bad : line_in line ≡ BAD → (passed_over line ≡ false) × (card_in line ≡ no_card)
-  was_bad e = go (passed_over line) refl (card_in line) refl (subst (λ a. Is a BAD) (sym e) tt)
+  pub was_entry : (m : ℕ) (o : ℤ) → kept_card (card_in line) ≡ Some (m, o) → WasEntry line m o
+  was_entry m o e = go (card_in line) refl e
     where
-      go : (t : Bool) → passed_over line ≡ t → (f : Found) → card_in line ≡ f → Is (cond t PASSED (kept_card f)) BAD → (passed_over line ≡ false) × (card_in line ≡ no_card)
-      go true p f q h = absurd h
-      go false p (a_card m negative n) q h = absurd h
-      go false p no_card q h = (p, q)
-
-  pub record WasEntry (m : ℕ) (o : ℤ) : Type 0 where
-    pub negative : Bool
-    pub size : ℕ
-    pub not_passed : passed_over line ≡ false
-    pub is_card : card_in line ≡ a_card m negative size
-    pub is_kept : o ≡ signed negative (kept size)
-
-  pub was_entry : (m : ℕ) (o : ℤ) → line_in line ≡ ENTRY m o → WasEntry m o
-  was_entry m o e = go (passed_over line) refl (card_in line) refl (sym e)
-    where
-      go : (t : Bool) → passed_over line ≡ t → (f : Found) → card_in line ≡ f → ENTRY m o ≡ cond t PASSED (kept_card f) → WasEntry m o
-      go true p f q h = absurd (subst (Is (ENTRY m o)) h tt)
-      go false p (a_card m' negative n) q h = record { negative = negative; size = n; not_passed = p; is_card = q ∙ ap (λ k. a_card k negative n) (sym (ap month h)); is_kept = ap offset h }
-      go false p no_card q h = absurd (subst (Is (ENTRY m o)) h tt)
+      go : (f : Found) → card_in line ≡ f → kept_card f ≡ Some (m, o) → WasEntry line m o
+      go (a_card k negative n) q h = let p : k ≡ m = ap (λ x. (held x).0) h in record { negative = negative; size = n; is_card = q ∙ ap (λ j. a_card j negative n) p; is_kept = sym (ap (λ x. (held x).1) h) }
+      go no_card q h = let z : ◌≡◌ {A = ℕ} 0 1 = cc in absurd (omega arith)
 
 -- ---- what is kept of the entries
 
@@ -105,18 +79,19 @@ kept_turned false es ps k = k
 -- ---- the loop
 
 -- up to place i all is read: behind these entries, of which the arrays hold what is kept, unless they are over 64
-pub record Going (s : List ℕ) (falling : Bool) (last count : ℕ) (months : List ℕ) (offsets : List ℤ) (i : ℕ) : Type 0 where
+pub record Going (s : List ℕ) (d : Deck) (i : ℕ) : Type 0 where
   pub es : List Entry
   pub ps : List Entry
-  pub ordered : Ordered es count falling last
+  pub ordered : Ordered es d.table.count d.falling d.last
   pub keeps : Kept es ps
-  pub holds : count ≤ 64 → Holds months offsets ps
+  pub holds : d.table.count ≤ 64 → Holds d.table.months d.table.offsets ps
+  pub no_month : d.table.vouched ≡ 0
   pub goes : read_lines es i (lines_of (drop i s)) ≡ read_cards s
   pub inside : i ≤ length s
 
-pub going_none : (s : List ℕ) {months : List ℕ} {offsets : List ℤ} → Holds months offsets [] → Going s false 0 0 months offsets 0
+pub going_none : (s : List ℕ) → Going s no_cards 0
 unfolding read_cards
-going_none s h = record { es = []; ps = []; ordered = ordered_none; keeps = tt; holds = λ l. h; goes = refl; inside = omega arith }
+going_none s = record { es = []; ps = []; ordered = ordered_none; keeps = tt; holds = λ l. record { months_are = refl; offsets_are = refl }; no_month = refl; goes = refl; inside = omega arith }
 
 -- a table of the entries turned, by what is held of them
 turned_held : (falling : Bool) (ps : List Entry) → turned falling (table_of ps) ≡ table_of (cond falling (reverse ps) ps)
@@ -131,24 +106,38 @@ many : (es : List Entry) → 64 < length es → refused_at TABLE 0 ≡ judged (t
 unfolding table_of
 many es l = rw (too_many (table_of es) l)
 
-module _ {s : List ℕ} {falling : Bool} {last count : ℕ} {months : List ℕ} {offsets : List ℤ} {i : ℕ} (h : Going s falling last count months offsets i) where
-  pub on_end : length s ≤ i → judged (turned falling (tabled count months offsets)) ≡ read_cards s
+module _ {s : List ℕ} {d : Deck} {i : ℕ} (h : Going s d i) where
+  abbrev falling : Bool
+  falling = d.falling
+
+  abbrev count : ℕ
+  count = d.table.count
+
+  plain : d.table ≡ tabled count d.table.months d.table.offsets
+  plain = ap (λ v. vouched_to v d.table) h.no_month
+
+  pub no_more : count ≤ 64 → d.table ≡ table_of (entries d.table)
+  no_more m =
+      let e : d.table ≡ table_of h.ps = plain ∙ holds_table (h.holds m) (kept_long h.es h.ps h.keeps ∙ h.ordered.few m) in
+      e ∙ ap table_of (sym (ap entries e ∙ entries_of h.ps))
+
+  pub on_end : length s ≤ i → judged (turned falling d.table) ≡ read_cards s
   unfolding read_lines table_of
   on_end l = told ∙ ap (λ fs. judged (table_of fs)) (sym (oldest_is h.ordered)) ∙ ap (read_lines h.es i) (sym (lines_end s i l)) ∙ h.goes
     where
-      o : Ordered h.es count falling last
+      o : Ordered h.es count falling d.last
       o = h.ordered
 
-      told : judged (turned falling (tabled count months offsets)) ≡ judged (table_of (cond falling (reverse h.es) h.es))
+      told : judged (turned falling d.table) ≡ judged (table_of (cond falling (reverse h.es) h.es))
       told =
           by_order 64 count
-          (λ m. sym (turned_many falling (tabled count months offsets) m) ∙ many (cond falling (reverse h.es) h.es) (omega (arith, o.many m, turned_long falling h.es)))
+          (λ m. sym (turned_many falling d.table m) ∙ many (cond falling (reverse h.es) h.es) (omega (arith, o.many m, turned_long falling h.es)))
           (λ m.
-          ap (λ t. judged (turned falling t)) (holds_table (h.holds m) (kept_long h.es h.ps h.keeps ∙ o.few m))
+          ap (λ t. judged (turned falling t)) (plain ∙ holds_table (h.holds m) (kept_long h.es h.ps h.keeps ∙ o.few m))
           ∙ ap judged (turned_held falling h.ps)
           ∙ kept_judged (cond falling (reverse h.es) h.es) (cond falling (reverse h.ps) h.ps) (kept_turned falling h.es h.ps h.keeps))
 
-  module _ (l : i < length s) {end next : ℕ} (e : end ≡ i + length (before 10 (drop i s))) (n : next ≡ min (end + 1) (length s)) {line : List ℕ} (q : line ≡ before 10 (drop i s)) where
+  module _ (l : i < length s) {end next : ℕ} (e : end ≡ i + length (before 10 (drop i s))) (n : next ≡ min (length s) (end + 1)) {line : List ℕ} (q : line ≡ before 10 (drop i s)) where
     -- the lines behind this one, from where it ends
     rest_goes : (fs : List Entry) → read_lines fs next (lines_of (drop next s)) ≡ read_lines fs (i + (length line + 1)) (lines_of (drop (end + 1) s))
     unfolding read_lines
@@ -160,32 +149,32 @@ module _ {s : List ℕ} {falling : Bool} {last count : ℕ} {months : List ℕ} 
     here : read_lines h.es i (line ∷ lines_of (drop (end + 1) s)) ≡ read_cards s
     here = ap (λ x. read_lines h.es i (x ∷ lines_of (drop (end + 1) s))) q ∙ ap (read_lines h.es i) (sym (lines_step s i l e)) ∙ h.goes
 
-    pub on_passed : passed_over line ≡ true → Going s falling last count months offsets next
+    pub on_passed : passed_over line ≡ true → Going s d next
     unfolding read_lines
-    on_passed p = record { es = h.es; ps = h.ps; ordered = h.ordered; keeps = h.keeps; holds = h.holds; goes = rest_goes h.es ∙ rw p at here; inside = omega arith }
+    on_passed p = record { es = h.es; ps = h.ps; ordered = h.ordered; keeps = h.keeps; holds = h.holds; no_month = h.no_month; goes = rest_goes h.es ∙ rw p at here; inside = omega arith }
 
-    pub on_bad : (passed_over line ≡ false) × (card_in line ≡ no_card) → refused_at CARD i ≡ read_cards s
+    pub on_bad : passed_over line ≡ false → card_in line ≡ no_card → refused_at CARD i ≡ read_cards s
     unfolding read_lines
-    on_bad w = rw (w.0, w.1) at here
+    on_bad p w = rw (p, w) at here
 
-    module _ {m : ℕ} {o : ℤ} (w : WasEntry line m o) where
+    module _ (p : passed_over line ≡ false) {m : ℕ} {o : ℤ} (w : WasEntry line m o) where
       abbrev new : Entry
       new = (m, signed w.negative w.size)
 
       pub on_order : in_order (h.es ++ new ∷ []) ≡ false → refused_at CARD i ≡ read_cards s
       unfolding read_lines
-      on_order r = rw (w.not_passed, w.is_card, r) at here
+      on_order r = rw (p, w.is_card, r) at here
 
       module _ (r : in_order (h.es ++ new ∷ []) ≡ true) where
         more : read_lines (h.es ++ new ∷ []) next (lines_of (drop next s)) ≡ read_cards s
         unfolding read_lines
-        more = rest_goes (h.es ++ new ∷ []) ∙ rw (w.not_passed, w.is_card, r) at here
+        more = rest_goes (h.es ++ new ∷ []) ∙ rw (p, w.is_card, r) at here
 
         keeps_more : Kept (h.es ++ new ∷ []) (h.ps ++ (m, o) ∷ [])
         keeps_more = kept_append h.es h.ps (new ∷ []) ((m, o) ∷ []) h.keeps (refl, (subst (SameOrLarge new.1) (sym w.is_kept) (kept_same w.negative w.size), tt))
 
-        pub on_entry : count < 64 → Going s (ltb m last) m (count + 1) (set months count m) (set offsets count o) next
-        on_entry k =
+        on_few : count < 64 → Going s (record { table = put m o d.table; falling = ltb m d.last; last = m }) next
+        on_few k =
             let c : count ≤ 64 = omega arith in
             record {
               es = h.es ++ new ∷ [];
@@ -193,17 +182,25 @@ module _ {s : List ℕ} {falling : Bool} {last count : ℕ} {months : List ℕ} 
               ordered = ordered_next new h.ordered k r;
               keeps = keeps_more;
               holds = λ j. holds_more (h.holds c) (m, o) (kept_long h.es h.ps h.keeps ∙ h.ordered.few c) k;
+              no_month = h.no_month;
               goes = more;
               inside = omega arith;
             }
 
-        pub on_full : 64 ≤ count → Going s (ltb m last) m 65 months offsets next
+        on_full : 64 ≤ count → Going s (record { table = crowded d.table; falling = ltb m d.last; last = m }) next
         on_full k = record {
           es = h.es ++ new ∷ [];
           ps = h.ps ++ (m, o) ∷ [];
           ordered = ordered_full new h.ordered k r;
           keeps = keeps_more;
           holds = λ j. absurd (omega arith);
+          no_month = h.no_month;
           goes = more;
           inside = omega arith;
         }
+
+        pub on_entry : Going s (added m o d) next
+        on_entry =
+            by_order count 64
+            (λ k. rw (lt-ltb count 64 k) (on_few k))
+            (λ k. rw (le-ltb count 64 k) (on_full k))

@@ -6,7 +6,7 @@ use mathlib.Core.Bool.{true}
 use mathlib.Core.List.{List, [], ◌∷◌, ◌++◌, append_assoc, append-nil}
 use native.Mathlib.Omega.{arith}
 use lib.IntN.{ℤ, pos, negsuc}
-use lib.ListN.{length, take, drop, replicate}
+use lib.ListN.{length, take, drop}
 use lib.Seq.{take_at}
 use lib.Signed.{mag}
 use Rattle.laws.proofs.Difference.{up, down}
@@ -62,28 +62,27 @@ pub cards_same : (v : ℕ) (t : Table) → cards_of (vouched_to v t) ≡ cards_o
 unfolding cards_of
 cards_same v t = ap cards_text (entries_same v t)
 
-abbrev zeros : List ℕ
-zeros = replicate 5184 0
-
 -- the first k cards are stored, up to len
 pub record Stored (t : Table) (bytes : List ℕ) (len k : ℕ) : Type 0 where
+  pub given : List ℕ
+  pub room : length given ≡ 5184
   pub right : Accepted t
   pub early : in_card_years (entries t) ≡ true
   pub text : List ℕ
-  pub stored : Placed zeros 0 text len bytes
+  pub stored : Placed given 0 text len bytes
   pub goes : text ++ cards_text (entries_from t k (t.count - k)) ≡ cards_of t
   pub inside : k ≤ t.count
   pub size : len ≡ 81 * k
 
-pub stored_none : {t : Table} → Accepted t → in_card_years (entries t) ≡ true → Stored t zeros 0 0
+pub stored_none : {t : Table} → Accepted t → in_card_years (entries t) ≡ true → {given : List ℕ} → length given ≡ 5184 → Stored t given 0 0
 unfolding cards_of
-stored_none {t} a y =
+stored_none {t} a y {given} long =
     let n : t.count - 0 ≡ t.count = omega arith in
-    record { right = a; early = y; text = []; stored = is_placed zeros 0 [] (omega arith) refl (sym (place_none zeros 0)); goes = ap (λ k. cards_text (entries_from t 0 k)) n; inside = omega arith; size = refl }
+    record { given = given; room = long; right = a; early = y; text = []; stored = is_placed given 0 [] (omega arith) refl (sym (place_none given 0)); goes = ap (λ k. cards_text (entries_from t 0 k)) n; inside = omega arith; size = refl }
 
 module _ {t : Table} {bytes : List ℕ} {len k : ℕ} (h : Stored t bytes len k) where
   pub long : length bytes ≡ 5184
-  long = h.stored.size
+  long = h.stored.size ∙ h.room
 
   module _ (l : k < t.count) where
     pub card_size : length (card_text (entry t k)) ≡ 80
@@ -105,10 +104,12 @@ module _ {t : Table} {bytes : List ℕ} {len k : ℕ} (h : Stored t bytes len k)
           let s : t.count - k ≡ suc (t.count - (k + 1)) = omega arith in
           let later = cards_text (entries_from t (k + 1) (t.count - (k + 1))) in
           record {
+            given = h.given;
+            room = h.room;
             right = h.right;
             early = h.early;
             text = h.text ++ (e ++ 10 ∷ []);
-            stored = then_placed zeros 0 h.text (e ++ 10 ∷ []) h.stored (then_placed bytes len e (10 ∷ []) f g);
+            stored = then_placed h.given 0 h.text (e ++ 10 ∷ []) h.stored (then_placed bytes len e (10 ∷ []) f g);
             goes =
                 append_assoc h.text (e ++ 10 ∷ []) later
                 ∙ ap (λ x. h.text ++ x) (append_assoc e (10 ∷ []) later)
@@ -118,10 +119,10 @@ module _ {t : Table} {bytes : List ℕ} {len k : ℕ} (h : Stored t bytes len k)
             size = omega (arith, f.end, g.end, h.size, card_size);
           }
 
-  pub stored_all : t.count ≤ k → (take len bytes ≡ cards_of t) × (len ≤ 5184) × (length bytes ≡ 5184)
+  pub stored_all : t.count ≤ k → take len bytes ≡ cards_of t
   unfolding entries_from cards_text
   stored_all l =
       let n : t.count - k ≡ 0 = omega arith in
       let whole : h.text ++ [] ≡ cards_of t = ap (λ j. h.text ++ cards_text (entries_from t k j)) (sym n) ∙ h.goes in
       let e : len ≡ length h.text = h.stored.end ∙ omega arith in
-      (ap (take len) h.stored.text ∙ take_at h.text (drop (0 + length h.text) zeros) len (sym e) ∙ sym (append-nil h.text) ∙ whole, h.stored.inside, long)
+      ap (take len) h.stored.text ∙ take_at h.text (drop (0 + length h.text) h.given) len (sym e) ∙ sym (append-nil h.text) ∙ whole

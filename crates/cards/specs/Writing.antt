@@ -1,9 +1,8 @@
 -- The cards of a table, oldest first, and what writing them answers.
 -- Assumes nothing.
-use Rattle.std.specs.Prelude.{ℕ, ◌-◌, Bool, true, ◌&&◌, List, [], ◌∷◌, ◌++◌, leb, length, replicate}
+use Rattle.std.specs.Prelude.{ℕ, ◌-◌, Bool, true, ◌&&◌, List, [], ◌∷◌, ◌++◌, leb, length, replicate, Result}
 use Rattle.answer.specs.declared.Refusal.{Refusal}
 use Rattle.answer.specs.declared.Refusal.TheVariants.{Table as TABLE, Range as RANGE}
-use Rattle.answer.specs.declared.Written.{Written}
 use Rattle.answer.specs.Buffers.{written, buffer_after}
 use Rattle.leap.specs.declared.Table.{Table}
 use Rattle.leap.specs.Leap.{accepted}
@@ -45,7 +44,7 @@ in_card_years (e ∷ es) = leb e.0 last_card_month && in_card_years es
 abbrev pub card_tests : Table → List (Bool × Refusal)
 card_tests t = (accepted t, TABLE) ∷ (in_card_years (entries t), RANGE) ∷ []
 
-abbrev pub write_cards : Table → List ℕ → Written
+abbrev pub write_cards : Table → List ℕ → Result ℕ Refusal
 write_cards t buffer = written (card_tests t) (cards_of t) buffer
 
 abbrev pub write_cards_after : Table → List ℕ → List ℕ

@@ -2,20 +2,19 @@
 // What a card is, is in specs/Card.antt; what a file of them is, in specs/Promise.antt.
 #![tactic(auto)]
 
-ghost use Rattle.std.specs.Prelude.{◌≡◌, true, ◌+◌, ◌-◌, ◌≤◌, ◌<◌, min, leb, length, get_or, take};
+ghost use Rattle.std.specs.Prelude.{◌≡◌, true, ◌+◌, ◌-◌, ◌≤◌, ◌<◌, leb, length, get_or};
 ghost use Rattle.std.specs.Int.Signed.{mag};
-ghost use Rattle.digits.specs.Decimals.{digit_value, Within, signed_text};
-ghost use Rattle.leap.specs.Leap.{tabled, accepted};
-ghost use Rattle.leap.specs.Entries.{entries};
+ghost use Rattle.digits.specs.Decimals.{digit_value, signed_text};
+ghost use Rattle.leap.specs.Leap.{accepted};
+ghost use Rattle.leap.specs.Entries.{entries, table_of};
 ghost use Rattle.leap.specs.Readers.{judged};
 ghost use Rattle.cards.specs.Card.{last_card_month, card_date};
-ghost use Rattle.cards.specs.Reading.{blank_or_plain, is_tdt, year_in, date_in, dated, is_marked, rest_right, card_in, kept, kept_card, line_in, follows, turned, read_cards};
+ghost use Rattle.cards.specs.Reading.{blank_or_plain, is_tdt, year_in, date_in, dated, is_marked, rest_right, card_in, kept, kept_card, no_cards, follows, added, turned, read_cards};
 ghost use Rattle.cards.specs.Writing.{card_text, cards_of, in_card_years, write_cards, write_cards_after};
 
-use answer::{Refusal, Written};
+use answer::{Fault, Refusal};
 use columns::Decimal;
-use digits::Number;
-use leap::{Table, TableRead};
+use leap::Table;
 
 // December 2049, the last month that two digits of a year can say.
 const LAST_MONTH: u32 = 935;
@@ -36,42 +35,25 @@ fn date_text(month: u32) -> [u8; 15]
 
 // ---- reading a card
 
-// What a line is: one that is passed over, a card with its month and its TAI-UTC, or neither.
-#[derive(Clone, Copy)]
-enum LineAnswer {
-    Passed,
-    Entry(u32, i32),
-    Bad,
-}
-
 fn blank_or_plain(s: &[u8]) -> bool
     ensures { result ≡ blank_or_plain s.now }
 {
-    if columns::all_blank(s) {
-        return true;
-    }
-    match columns::decimal_in(s) {
-        Decimal::Plain(_, _, _) => true,
-        Decimal::Not => false,
-    }
+    columns::all_blank(s) || columns::decimal_in(s).is_some()
 }
 
 // 32.184 has three places behind its point, or more that are zero.
-fn is_tdt(shown: Decimal) -> bool
+fn is_tdt(shown: Option<Decimal>) -> bool
     ensures { result ≡ is_tdt shown }
 {
-    let Decimal::Plain(minus, number, places) = shown else {
-        return false;
-    };
-    if minus {
-        return false;
-    }
-    if places < 3 {
-        return false;
-    }
-    match columns::whole(number, places - 3) {
-        Number::Is(n) => n == 32184,
-        Number::Bad => false,
+    match shown {
+        Some(
+            Decimal {
+                minus: false,
+                number,
+                places: places @ 3..,
+            },
+        ) => columns::whole(number, places - 3) == Some(32184),
+        _ => false,
     }
 }
 
@@ -86,221 +68,195 @@ fn year_in(s: &[u8]) -> u32
     ensures { (result ≡ year_in s.now) × (result ≤ 2049) }
 {
     let yy = digit_at(s, 0) * 10 + digit_at(s, 1);
-    if yy < 50 {
-        return 2000 + yy;
-    }
-    1900 + yy
+    if yy < 50 { 2000 + yy } else { 1900 + yy }
 }
 
 // The month of a date: guessed from its digits, and its text compared.
-fn date_in(s: &[u8]) -> Number
-    ensures { (result ≡ date_in s.now) × Within last_card_month result }
+fn date_in(s: &[u8]) -> Option<u32>
+    ensures { result ≡ date_in s.now }
 {
     let year = year_in(s);
     if year < 1972 {
-        return Number::Bad;
+        return None;
     }
     let day = (digit_at(s, 2) * 10 + digit_at(s, 3)) * 10 + digit_at(s, 4);
     let month = 12 * (year - 1972) + day / 30;
     if LAST_MONTH < month {
-        return Number::Bad;
+        return None;
     }
-    if check::same(&date_text(month), s) {
-        return Number::Is(month as u64);
-    }
-    Number::Bad
+    check::same(&date_text(month), s).then_some(month)
 }
 
 fn is_marked(a: u8, b: u8, c: u8) -> bool
     ensures { result ≡ is_marked a b c }
 {
-    ((a == b' ') | (a == b'1')) & ((b == b'T') & (c == b'P'))
+    matches!(a, b' ' | b'1') && (b == b'T' && c == b'P')
 }
 
 // All but TAI-UTC and the date.
+#[tactic(auto, unfolding(crate::specs::Reading::rest_right))]
 fn rest_right(line: &[u8]) -> bool
     requires { length line.now ≡ 80 }
     ensures { result ≡ rest_right line.now }
 {
-    if !is_marked(line[0], line[78], line[79]) {
-        return false;
-    }
-    if !blank_or_plain(&line[16..31]) {
-        return false;
-    }
-    if !blank_or_plain(&line[31..46]) {
-        return false;
-    }
-    is_tdt(columns::decimal_in(&line[46..61]))
+    is_marked(line[0], line[78], line[79])
+        && (blank_or_plain(&line[16..31])
+            && (blank_or_plain(&line[31..46]) && is_tdt(columns::decimal_in(&line[46..61]))))
 }
 
 // No table has an offset of 1000 or more, so no more of it is kept.
 fn cut(n: u64) -> u16
     ensures { result ≡ kept n }
 {
-    if n < 1000 { n as u16 } else { 1000 }
+    n.min(1000) as u16
 }
 
 // The entry of a card, from its date and its TAI-UTC.
-fn entry_of(date: Number, shown: Decimal) -> LineAnswer
-    requires { Within last_card_month date }
+fn entry_of(date: Option<u32>, shown: Option<Decimal>) -> Option<(u32, i32)>
     ensures { result ≡ kept_card (dated date shown) }
 {
-    let Number::Is(month) = date else {
-        return LineAnswer::Bad;
-    };
-    let Decimal::Plain(minus, number, places) = shown else {
-        return LineAnswer::Bad;
-    };
-    match columns::whole(number, places) {
-        Number::Is(n) => LineAnswer::Entry(month as u32, digits::with_sign(minus, cut(n))),
-        Number::Bad => LineAnswer::Bad,
-    }
+    let month = date?;
+    let Decimal {
+        minus,
+        number,
+        places,
+    } = shown?;
+    let size = columns::whole(number, places)?;
+    Some((month, digits::with_sign(minus, cut(size))))
 }
 
-fn card_in(line: &[u8]) -> LineAnswer
+#[tactic(auto, unfolding(crate::specs::Reading::card_in))]
+fn card_in(line: &[u8]) -> Option<(u32, i32)>
     ensures { result ≡ kept_card (card_in line.now) }
 {
-    if line.len() != 80 {
-        return LineAnswer::Bad;
+    if line.len() == 80 && rest_right(line) {
+        entry_of(date_in(&line[61..76]), columns::decimal_in(&line[1..16]))
+    } else {
+        None
     }
-    if !rest_right(line) {
-        return LineAnswer::Bad;
-    }
-    entry_of(date_in(&line[61..76]), columns::decimal_in(&line[1..16]))
-}
-
-fn line_in(line: &[u8]) -> LineAnswer
-    ensures { result ≡ line_in line.now }
-{
-    if columns::passed_over(line) {
-        return LineAnswer::Passed;
-    }
-    card_in(line)
 }
 
 // ---- reading a file
 
-// The first two cards decide whether the dates rise or fall.
-fn follows(count: usize, falling: bool, last: u32, month: u32) -> bool
-    ensures { result ≡ follows count falling last month }
-{
-    if count < 1 {
-        return true;
-    }
-    if count < 2 {
-        return month != last;
-    }
-    if falling {
-        return month < last;
-    }
-    last < month
-}
-
-// The cards from the last to the first, judged as a table.
-fn judge_falling<'a>(count: usize, months: &'a [u32; 64], offsets: &'a [i32; 64]) -> TableRead
-    requires { count ≤ 64 }
-    ensures { result ≡ judged (turned true (tabled count months.now offsets.now)) }
-{
-    let mut m = [0u32; 64];
-    let mut o = [0i32; 64];
-    let mut k = 0;
-    while k < count {
-        m[k] = months[count - 1 - k];
-        o[k] = offsets[count - 1 - k];
-        k += 1;
-    }
-    leap::judge(count, &m, &o)
-}
-
-// The entries oldest first, judged as a table.
-fn judge<'a>(
+// The cards of a file so far: their entries in its order, whether they fall, and the month of the last.
+// From the 65th on they are no longer counted, since no table has so many.
+#[derive(Clone, Copy)]
+struct Deck {
+    table: Table,
     falling: bool,
-    count: usize,
-    months: &'a [u32; 64],
-    offsets: &'a [i32; 64],
-) -> TableRead
-    ensures { result ≡ judged (turned falling (tabled count months.now offsets.now)) }
-{
-    if 64 < count {
-        return leap::refused_at(Refusal::Table, 0);
-    }
-    if falling {
-        return judge_falling(count, months, offsets);
-    }
-    leap::judge(count, months, offsets)
+    last: u32,
 }
 
-// Where the line behind one that ends here begins.
-fn behind(s: &[u8], end: usize) -> usize
-    ensures { result ≡ min (end + 1) (length s.now) }
-{
-    if end < s.len() {
-        return end + 1;
+impl Deck {
+    fn new() -> Deck
+        ensures { result ≡ no_cards }
+    {
+        Deck {
+            table: Table::empty(),
+            falling: false,
+            last: 0,
+        }
     }
-    s.len()
+
+    // The first two cards decide whether the dates rise or fall.
+    #[tactic(auto, unfolding(crate::specs::Reading::follows))]
+    fn goes_on(&self, month: u32) -> bool
+        ensures { result ≡ follows self.now.table.count self.now.falling self.now.last month }
+    {
+        match self.table.count {
+            0 => true,
+            1 => month != self.last,
+            _ if self.falling => month < self.last,
+            _ => self.last < month,
+        }
+    }
+
+    fn add(&mut self, month: u32, offset: i32)
+        ensures { self.new ≡ added month offset self.old }
+    {
+        let n = self.table.count;
+        if n < 64 {
+            self.table.months[n] = month;
+            self.table.offsets[n] = offset;
+            self.table.count = n + 1;
+        } else {
+            self.table.count = 65;
+        }
+        self.falling = month < self.last;
+        self.last = month;
+    }
+
+    // The table of the cards from the last to the first: past them all is zero.
+    fn turned(&self) -> Table
+        requires few { self.now.table.count ≤ 64 }
+        requires no_more { self.now.table ≡ table_of (entries self.now.table) }
+        ensures { result ≡ turned true self.now.table }
+    {
+        let n = self.table.count;
+        let mut months = self.table.months;
+        let mut offsets = self.table.offsets;
+        months[..n].reverse();
+        offsets[..n].reverse();
+        Table::new(n, months, offsets, 0)
+    }
+
+    // The entries oldest first, judged as a table.
+    fn judge(&self) -> Result<Table, Fault>
+        requires { self.now.table.count ≤ 64 → self.now.table ≡ table_of (entries self.now.table) }
+        ensures { result ≡ judged (turned self.now.falling self.now.table) }
+    {
+        if self.falling && self.table.count <= 64 {
+            leap::judge(&self.turned())
+        } else {
+            leap::judge(&self.table)
+        }
+    }
 }
 
-// The table of a file of cards, or the first bad line and its place. From 65 on cards are no longer counted, since no table has so many.
-pub fn read_cards(s: &[u8]) -> TableRead
+// The table of a file of cards, or the first bad line and its place.
+pub fn read_cards(s: &[u8]) -> Result<Table, Fault>
     ensures { result ≡ read_cards s.now }
 {
-    let mut falling = false;
-    let mut last = 0u32;
-    let mut count = 0usize;
-    let mut months = [0u32; 64];
-    let mut offsets = [0i32; 64];
+    let mut deck = Deck::new();
     let mut from = 0;
+    // while: a line's place is where the one before it ended, which is found as it is read.
     while from < s.len() {
         let at = from;
         let end = lines::until(s, at, b'\n');
-        from = behind(s, end);
-        match line_in(&s[at..end]) {
-            LineAnswer::Passed => {}
-            LineAnswer::Bad => return leap::refused_at(Refusal::Card, at),
-            LineAnswer::Entry(month, offset) => {
-                if !follows(count, falling, last, month) {
-                    return leap::refused_at(Refusal::Card, at);
-                }
-                falling = month < last;
-                last = month;
-                if count < 64 {
-                    months[count] = month;
-                    offsets[count] = offset;
-                    count += 1;
-                } else {
-                    count = 65;
+        from = s.len().min(end + 1);
+        let line = &s[at..end];
+        if !columns::passed_over(line) {
+            match card_in(line) {
+                Some((month, offset)) if deck.goes_on(month) => deck.add(month, offset),
+                _ => {
+                    return Err(Fault {
+                        why: Refusal::Card,
+                        at,
+                    });
                 }
             }
         }
     }
-    judge(falling, count, &months, &offsets)
+    deck.judge()
 }
 
 // ---- writing
-
-// The cards of a table: the first `len` of the bytes, 81 for each of up to 64 entries.
-#[derive(Clone, Copy)]
-struct Cards {
-    bytes: [u8; 5184],
-    len: usize,
-}
 
 // How many bytes a number below 99 in size has.
 fn signed_width(z: i32) -> usize
     requires { mag z < 99 }
     ensures { result ≡ length (signed_text z) }
 {
+    // No match: its arms name no fact that the proof could take.
     if z < -9 {
-        return 3;
+        3
+    } else if z < 0 {
+        2
+    } else if z < 10 {
+        1
+    } else {
+        2
     }
-    if z < 0 {
-        return 2;
-    }
-    if z < 10 {
-        return 1;
-    }
-    2
 }
 
 // A blank card with its fields stored at their columns. TAI-UTC ends with column 16.
@@ -318,42 +274,39 @@ fn image(month: u32, offset: i32) -> [u8; 80]
     card
 }
 
-fn cards_of<'a>(count: usize, months: &'a [u32; 64], offsets: &'a [i32; 64]) -> Cards
-    requires { (accepted (tabled count months.now offsets.now) ≡ true) × (in_card_years (entries (tabled count months.now offsets.now)) ≡ true) }
-    ensures { (take result.len result.bytes ≡ cards_of (tabled count months.now offsets.now)) × (result.len ≤ 5184) × (length result.bytes ≡ 5184) }
+// A table's cards, in the front of these bytes: 81 for each of up to 64 entries.
+fn cards_of<'a>(t: &Table, bytes: &'a mut [u8; 5184]) -> &'a [u8]
+    requires { (accepted t.now ≡ true) × (in_card_years (entries t.now) ≡ true) }
+    ensures { result.now ≡ cards_of t.now }
 {
-    let mut bytes = [0u8; 5184];
     let mut len = 0;
-    let mut k = 0;
-    while k < count {
-        let card = image(months[k], offsets[k]);
-        len = digits::append(&mut bytes, len, &card);
-        len = digits::append(&mut bytes, len, b"\n");
-        k += 1;
+    // An index: an entry lies in two arrays.
+    for k in 0..t.count {
+        let card = image(t.months[k], t.offsets[k]);
+        len = digits::append(bytes, len, &card);
+        len = digits::append(bytes, len, b"\n");
     }
-    Cards { bytes, len }
+    &bytes[..len]
 }
 
 // No entry is later than a card can say: the last entry of an accepted table is its latest.
-fn in_card_years(count: usize, months: &[u32; 64]) -> bool
-    requires { (1 ≤ count) × (count ≤ 64) }
-    ensures { result ≡ leb (get_or months.now (count - 1) 0) last_card_month }
+fn in_card_years(t: &Table) -> bool
+    requires { (1 ≤ t.now.count) × (t.now.count ≤ 64) }
+    ensures { result ≡ leb (get_or t.now.months (t.now.count - 1) 0) last_card_month }
 {
-    months[count - 1] <= LAST_MONTH
+    t.months[t.count - 1] <= LAST_MONTH
 }
 
 // Writes a table's cards to the front of `out`, oldest first, and gives their length.
-pub fn write_cards(t: Table, out: &mut [u8]) -> Written
-    ensures { (result ≡ write_cards t out.old) × (out.new ≡ write_cards_after t out.old) }
+pub fn write_cards(t: &Table, out: &mut [u8]) -> Result<usize, Refusal>
+    ensures { (result ≡ write_cards t.now out.old) × (out.new ≡ write_cards_after t.now out.old) }
 {
-    if !leap::is_accepted_in(t.count, &t.months, &t.offsets, t.vouched) {
-        return Written::Refused(Refusal::Table);
+    if !t.is_accepted() {
+        return Err(Refusal::Table);
     }
-    if !in_card_years(t.count, &t.months) {
-        return Written::Refused(Refusal::Range);
+    if !in_card_years(t) {
+        return Err(Refusal::Range);
     }
-    let cards = cards_of(t.count, &t.months, &t.offsets);
-    let bytes = cards.bytes;
-    let len = cards.len;
-    answer::write(&bytes[..len], out)
+    let mut bytes = [0; 5184];
+    answer::write(cards_of(t, &mut bytes), out)
 }

@@ -7,6 +7,8 @@ use mathlib.Core.List.{[], ◌∷◌}
 use Prim.Native.Nat.{ℕ, zero, suc, ◌+◌, ◌-◌, ◌*◌, ◌≤◌, ◌<◌}
 use native.Mathlib.Omega.{arith}
 use lib.IntN.{pos, ◌+ℤ◌}
+use Rattle.std.specs.Prelude.{Result, Ok, Err}
+use Rattle.answer.specs.declared.Refusal.{Refusal}
 use Rattle.laws.proofs.Cases.{join}
 use Rattle.laws.proofs.Difference.{up, down}
 use Rattle.laws.proofs.Offsets.{Steps}
@@ -27,8 +29,6 @@ use Rattle.labels.proofs.Order.{order, order_back}
 use Rattle.labels.proofs.Admitted.{admitted_to, admitted_from}
 use Rattle.labels.proofs.Years.{axis_second, first_second, last_second, days_last, days_end}
 use Rattle.labels.proofs.Labelled.{At, at_covered, one, standing}
-use Rattle.clock.specs.declared.TickAnswer.{TickAnswer}
-use Rattle.clock.specs.declared.TickAnswer.TheVariants.{Next, Refused}
 use Rattle.clock.specs.Clock.{start, tick, tick_results, onward, after}
 use Rattle.clock.specs.Promise.{first_label, last_label, admits, Follows, Shows, ended, Ends, Ticking, AllTick}
 use Rattle.clock.proofs.Days.{days_by_entries}
@@ -92,23 +92,23 @@ module _ (t : Table) (ok : accepted t ≡ true) where
 
   -- ---- the ticks
 
-  starts : after t 0 ≡ Next first_label
+  starts : after t 0 ≡ Ok first_label
   unfolding after start
-  starts = none_refused Refused ((accepted t, TABLE) ∷ []) (Next first_label) (join ok refl)
+  starts = none_refused Err ((accepted t, TABLE) ∷ []) (Ok first_label) (join ok refl)
 
   first_at : At o first_label (tai 0)
   unfolding tai
   first_at =
       begins_minute o st first_label (62230291210 + 0) (omega (arith, length_least first_month)) refl (omega (arith, ten, first_second))
 
-  onward_right : (n : ℕ) (p : TickAnswer) → Right o (tai n) p → Right o (tai (suc n)) (onward t p)
+  onward_right : (n : ℕ) (p : Result Label Refusal) → Right o (tai n) p → Right o (tai (suc n)) (onward t p)
   unfolding tick o tai
-  onward_right n (Refused why) r = (r.0, omega (arith, r.1))
-  onward_right n (Next l) a =
+  onward_right n (Err why) r = (r.0, omega (arith, r.1))
+  onward_right n (Ok l) a =
       let next_second : tai n + 1 ≡ tai (suc n) = omega arith in
       subst (λ (s : ℕ). Right o s (tick t l)) next_second
       (subst (Right o (tai n + 1))
-      (sym (none_refused Refused ((accepted t, TABLE) ∷ label_tests (offset_at t) 60 (whole l)) _ (join ok (admitted_at l (tai n) a))))
+      (sym (none_refused Err ((accepted t, TABLE) ∷ label_tests (offset_at t) 60 (whole l)) _ (join ok (admitted_at l (tai n) a))))
       (ticks o st l (tai n) a))
 
   right : (n : ℕ) → Right o (tai n) (after t n)
@@ -117,17 +117,17 @@ module _ (t : Table) (ok : accepted t ≡ true) where
   right (suc n) = onward_right n (after t n) (right n)
 
   -- a label is shown up to the last second, and RANGE past it
-  told : (n : ℕ) → ((n ≤ count) × ((l : Label) × ((after t n ≡ Next l) × At o l (tai n)))) ⊎ ((count < n) × (after t n ≡ Refused RANGE))
+  told : (n : ℕ) → ((n ≤ count) × ((l : Label) × ((after t n ≡ Ok l) × At o l (tai n)))) ⊎ ((count < n) × (after t n ≡ Err RANGE))
   unfolding tai
   told n = go (after t n) refl (right n)
     where
-      go : (p : TickAnswer) → after t n ≡ p → Right o (tai n) p → ((n ≤ count) × ((l : Label) × ((after t n ≡ Next l) × At o l (tai n)))) ⊎ ((count < n) × (after t n ≡ Refused RANGE))
-      go (Next l) e a = inl (in_time l n a, (l, (e, a)))
-      go (Refused why) e r = inr (omega (arith, r.1, end_is), e ∙ ap Refused r.0)
+      go : (p : Result Label Refusal) → after t n ≡ p → Right o (tai n) p → ((n ≤ count) × ((l : Label) × ((after t n ≡ Ok l) × At o l (tai n)))) ⊎ ((count < n) × (after t n ≡ Err RANGE))
+      go (Ok l) e a = inl (in_time l n a, (l, (e, a)))
+      go (Err why) e r = inr (omega (arith, r.1, end_is), e ∙ ap Err r.0)
 
-  shows_it : (l : Label) (n : ℕ) → At o l (tai n) → after t n ≡ Next l
+  shows_it : (l : Label) (n : ℕ) → At o l (tai n) → after t n ≡ Ok l
   shows_it l n a =
-      ⊎_elim (λ w. w.1.1.0 ∙ ap Next (one o st w.1.0 l (tai n) w.1.1.1 a)) (λ w. absurd (omega (arith, in_time l n a))) (told n)
+      ⊎_elim (λ w. w.1.1.0 ∙ ap Ok (one o st w.1.0 l (tai n) w.1.1.1 a)) (λ w. absurd (omega (arith, in_time l n a))) (told n)
 
   last_at : At o last_label (tai count)
   unfolding tai count
@@ -168,9 +168,9 @@ module _ (t : Table) (ok : accepted t ≡ true) where
   -- ---- all ticks, in the scope's numbers
 
   -- number 0 is no refusal's
-  next : (a : TickAnswer) (l : Label) → tick_results a ≡ (0, l) → a ≡ Next l
-  next (Next k) l e = ap (λ v. Next v.1) e
-  next (Refused why) l e = absurd (number_some why (ap (λ v. v.0) e))
+  next : (a : Result Label Refusal) (l : Label) → tick_results a ≡ (0, l) → a ≡ Ok l
+  next (Ok k) l e = ap (λ v. Ok v.1) e
+  next (Err why) l e = absurd (number_some why (ap (λ v. v.0) e))
 
   at : (n : ℕ) (l : Label) → Shows t n l → At o l (tai n)
   at n l e = subst (Right o (tai n)) (next (after t n) l e) (right n)

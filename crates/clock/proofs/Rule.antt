@@ -5,6 +5,8 @@ use mathlib.Core.Logic.{◌⊎◌, inl, inr, ⊎_elim}
 use Prim.Native.Nat.{ℕ, ◌+◌, ◌-◌, ◌*◌, ◌≤◌, ◌<◌}
 use native.Mathlib.Omega.{arith}
 use borrow.Author.Tests.{eq-eqb, eqb-true}
+use Rattle.std.specs.Prelude.{Result, Ok, Err}
+use Rattle.answer.specs.declared.Refusal.{Refusal}
 use Rattle.laws.proofs.Cases.{by_test, and_l, and_r}
 use Rattle.laws.proofs.Difference.{up, down}
 use Rattle.answer.specs.declared.Refusal.TheVariants.{Range as RANGE}
@@ -18,15 +20,13 @@ use Rattle.labels.proofs.Turn.{turn, last_range}
 use Rattle.labels.proofs.Falls.{Begun}
 use Rattle.labels.proofs.Order.{Stands}
 use Rattle.labels.proofs.Labelled.{At}
-use Rattle.clock.specs.declared.TickAnswer.{TickAnswer}
-use Rattle.clock.specs.declared.TickAnswer.TheVariants.{Next, Refused}
 use Rattle.clock.specs.Clock.{next}
 use Rattle.laws.proofs.Cases.{pick<}
 
 -- what is shown at second s: its label, or RANGE once year 10000 has begun
-abbrev pub Right : Offsets → ℕ → TickAnswer → Type 0
-Right o s (Next l) = At o l s
-Right o s (Refused why) = (why ≡ RANGE) × Begun o end_month s
+abbrev pub Right : Offsets → ℕ → Result Label Refusal → Type 0
+Right o s (Ok l) = At o l s
+Right o s (Err why) = (why ≡ RANGE) × Begun o end_month s
 
 -- the fields down to the minute are in their ranges
 abbrev Minute : Label → Type 0

@@ -16,9 +16,9 @@ use Rattle.digits.proofs.Decimals.{digit_range}
 use Rattle.lines.specs.Words.{leading, is_blank}
 use Rattle.lines.proofs.Words.{leading_split, leading_blanks}
 use Rattle.columns.specs.declared.Decimal.{Decimal}
-use Rattle.columns.specs.declared.Decimal.TheVariants.{Plain as PLAIN, Not as NOT}
+use Rattle.std.specs.Prelude.{Option, None}
 use Rattle.columns.specs.Columns.{all_blank}
-use Rattle.columns.specs.Decimals.{Sign, none, plus, minus, Pointed, no_point, a_point, Plain, is_sign, is_point, behind_all, behind_one, ended, from_point, from_digits, from_sign, decimal_in}
+use Rattle.columns.specs.Decimals.{Sign, none, plus, minus, Pointed, no_point, a_point, Plain, is_sign, is_point, behind_all, behind_one, found, ended, from_point, from_digits, from_sign, decimal_in}
 use Rattle.columns.proofs.Fields.{leading_all}
 
 -- ---- the bytes of a kind in front
@@ -108,14 +108,23 @@ record Ends (neg : Bool) (whole behind s : List ℕ) (negative : Bool) (number p
   blank : all_blank s ≡ true
   some : 1 ≤ length whole + length behind
 
-ends : (neg : Bool) (whole behind s : List ℕ) {negative : Bool} {number places : ℕ} → ended neg whole behind s ≡ PLAIN negative number places → Ends neg whole behind s negative number places
+ends : (neg : Bool) (whole behind s : List ℕ) {negative : Bool} {number places : ℕ} → ended neg whole behind s ≡ found negative number places → Ends neg whole behind s negative number places
 ends neg whole behind s {negative} {number} {places} e = go (all_blank s && leb 1 (length whole + length behind)) refl e
   where
-    go : (t : Bool) → (all_blank s && leb 1 (length whole + length behind)) ≡ t → cond t (PLAIN neg (spelled 0 (whole ++ behind)) (length behind)) NOT ≡ PLAIN negative number places → Ends neg whole behind s negative number places
-    go true p q = let r = both (all_blank s) _ p in record { is_minus = cc; is_number = cc; is_places = cc; blank = r.0; some = leb-true 1 _ r.1 }
+    go : (t : Bool) → (all_blank s && leb 1 (length whole + length behind)) ≡ t → cond t (found neg (spelled 0 (whole ++ behind)) (length behind)) None ≡ found negative number places → Ends neg whole behind s negative number places
+    go true p q =
+        let r = both (all_blank s) _ p in
+        let same : ◌≡◌ {A = Decimal} (record { minus = neg; number = spelled 0 (whole ++ behind); places = length behind }) (record { minus = negative; number = number; places = places }) = cc in
+        record {
+          is_minus = ap (λ (d : Decimal). d.minus) same;
+          is_number = sym (ap (λ (d : Decimal). d.number) same);
+          is_places = sym (ap (λ (d : Decimal). d.places) same);
+          blank = r.0;
+          some = leb-true 1 _ r.1;
+        }
     go false p q = let z : ◌≡◌ {A = ℕ} 0 1 = cc in absurd (omega arith)
 
-found_there : (s : List ℕ) {negative : Bool} {number places : ℕ} → length s ≤ 18 → decimal_in s ≡ PLAIN negative number places → Plain s negative number places
+found_there : (s : List ℕ) {negative : Bool} {number places : ℕ} → length s ≤ 18 → decimal_in s ≡ found negative number places → Plain s negative number places
 unfolding decimal_in
 found_there s {negative} {number} {places} h e =
     let u = behind_all is_blank s in
@@ -123,7 +132,7 @@ found_there s {negative} {number} {places} h e =
     let x = behind_all is_digit v in
     let y = behind_one is_point x in
     let z = behind_all is_digit y in
-    let f : from_sign u ≡ PLAIN negative number places = rw (le-leb (length s) 18 h) at e in
+    let f : from_sign u ≡ found negative number places = rw (le-leb (length s) 18 h) at e in
     let r = ends (eqb (get_or u 0 0) 45) (leading is_digit v) (leading is_digit y) z f in
     let sign = sign_there u in
     let body = point_there (leading is_digit v) x (leading_twice is_digit v) in
@@ -152,7 +161,7 @@ blanks_begin zero = (refl, refl)
 blanks_begin (suc n) = (refl, refl)
 
 -- digits are cut from what begins with none
-cut : (a t : List ℕ) → all_digits a ≡ true → is_digit (get_or t 0 0) ≡ false → (f : List ℕ → List ℕ → Decimal) → f (leading is_digit (a ++ t)) (behind_all is_digit (a ++ t)) ≡ f a t
+cut : (a t : List ℕ) → all_digits a ≡ true → is_digit (get_or t 0 0) ≡ false → (f : List ℕ → List ℕ → Option Decimal) → f (leading is_digit (a ++ t)) (behind_all is_digit (a ++ t)) ≡ f a t
 cut a t d n f = let e = digits_leading a d in ap₂ f (in_front is_digit a t e n) (behind_it is_digit a t e n)
 
 module _ (neg : Bool) (whole behind : List ℕ) (n : ℕ) (d : all_digits whole ≡ true) (d' : all_digits behind ≡ true) where
@@ -186,19 +195,19 @@ module _ (s : List ℕ) (b : (46 ≤ get_or s 0 0) × (get_or s 0 0 ≤ 57)) whe
   sign_begins plus = refl
   sign_begins minus = refl
 
-there_found : (s : List ℕ) {negative : Bool} {number places : ℕ} → length s ≤ 18 → Plain s negative number places → decimal_in s ≡ PLAIN negative number places
+there_found : (s : List ℕ) {negative : Bool} {number places : ℕ} → length s ≤ 18 → Plain s negative number places → decimal_in s ≡ found negative number places
 unfolding decimal_in
 there_found s {negative} {number} {places} h p =
     let blanks : List ℕ = replicate p.after 32 in
     let b = body_begins blanks p.is_body p.whole_digits p.some_digit in
-    let end : ended negative p.whole p.behind blanks ≡ PLAIN negative (spelled 0 (p.whole ++ p.behind)) (length p.behind) = rw (blanks_blank p.after, le-leb 1 (length p.whole + length p.behind) p.some_digit) in
+    let end : ended negative p.whole p.behind blanks ≡ found negative (spelled 0 (p.whole ++ p.behind)) (length p.behind) = rw (blanks_blank p.after, le-leb 1 (length p.whole + length p.behind) p.some_digit) in
     rw (le-leb (length s) 18 h)
     (ap (λ (l : List ℕ). from_sign (behind_all is_blank l)) p.split
     ∙ ap from_sign (behind_it is_blank (replicate p.before 32) (p.sign ++ (p.body ++ blanks)) (blanks_leading p.before) (sign_begins (p.body ++ blanks) b p.is_sign_lem))
     ∙ from_sign_lem (p.body ++ blanks) b p.is_sign_lem
     ∙ from_body negative p.after p.is_body p.whole_digits p.behind_digits
     ∙ end
-    ∙ ap₂ (PLAIN negative) (sym p.is_number) (sym p.is_places))
+    ∙ ap₂ (found negative) (sym p.is_number) (sym p.is_places))
 
-pub found_exactly : (s : List ℕ) (negative : Bool) (number places : ℕ) → length s ≤ 18 → (decimal_in s ≡ PLAIN negative number places) ↔ Plain s negative number places
+pub found_exactly : (s : List ℕ) (negative : Bool) (number places : ℕ) → length s ≤ 18 → (decimal_in s ≡ found negative number places) ↔ Plain s negative number places
 found_exactly s negative number places h = (found_there s h, there_found s h)

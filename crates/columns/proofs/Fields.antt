@@ -4,19 +4,18 @@ use Prim.Native.Nat.{ℕ, suc, ◌+◌, ◌*◌, ◌^◌, ◌≤◌, ◌<◌}
 use mathlib.Core.Path.{◌≡◌, refl, sym, ap, ◌∙◌}
 use mathlib.Core.Bool.{Bool, true, false, cond}
 use mathlib.Core.List.{List, [], ◌∷◌}
-use native.Mathlib.Nat.{pow-succ', pow-le-pow_right, lt_of_lt_of_le, add-zero}
+use native.Mathlib.Nat.{pow-succ', pow-le-pow_right, lt_of_lt_of_le}
 use native.Mathlib.Numerals.{add-one}
 use native.Mathlib.Omega.{arith}
 use borrow.Author.Tests.{eq-eqb, eqb-true}
 use lib.Dec.{eqb, lit<}
-use lib.ListN.{length, drop, get_or, get_or-eq_default}
-use lib.Seq.{drop-drop, get_or-drop}
-use Rattle.laws.proofs.Cases.{by_truth, by_order, and_l, and_r, join}
+use lib.ListN.{length, drop, get_or}
+use Rattle.laws.proofs.Cases.{by_truth, and_l, and_r, join}
 use Rattle.digits.specs.Decimals.{is_digit, digit_value, spelled}
 use Rattle.lines.specs.Words.{leading, is_blank}
 use Rattle.lines.proofs.Words.{leading_more, leading_stop, leading_none}
 use Rattle.columns.specs.Columns.{all_blank}
-use Rattle.columns.specs.Decimals.{BehindOne, Digits}
+use Rattle.columns.specs.Decimals.{Digits}
 
 -- ---- blanks
 
@@ -39,22 +38,6 @@ pub blank_is : (s : List ℕ) {r : ℕ} → r ≡ length (leading is_blank s) �
 blank_is s {r} e = by_truth (eqb r (length s)) (all_blank s)
     (λ h. all_leading s (sym e ∙ eqb-true r (length s) h))
     (λ h. eq-eqb r (length s) (e ∙ ap length (leading_all s h)))
-
--- ---- one byte of a kind
-
-module _ (kind : ℕ → Bool) (s : List ℕ) (i : ℕ) {b : ℕ} (e : b ≡ get_or s i 0) where
-  here : get_or (drop i s) 0 0 ≡ b
-  here = get_or-drop i s 0 0 ∙ ap (λ (k : ℕ). get_or s k 0) (add-zero i) ∙ sym e
-
-  pub one_there : i < length s → kind b ≡ true → BehindOne kind s i (i + 1)
-  one_there l h = record { rest = rw (here, h) (sym (drop-drop 1 i s)); later = omega arith; inside = omega arith }
-
-  pub one_not : i ≤ length s → kind b ≡ false → BehindOne kind s i i
-  one_not l h = record { rest = rw (here, h); later = omega arith; inside = l }
-
-  -- past the end there is the byte 0
-  pub there : i ≤ length s → (b ≡ 0 → ⊥) → i < length s
-  there l n = by_order i (length s) (λ h. h) (λ h. absurd (n (e ∙ get_or-eq_default s 0 h)))
 
 -- ---- digits
 

@@ -17,12 +17,12 @@ use Rattle.digits.proofs.Decimals.{spelled_append}
 use Rattle.lines.specs.Words.{leading, is_blank}
 use Rattle.lines.proofs.Words.{leading_short}
 use Rattle.columns.specs.declared.Decimal.{Decimal}
-use Rattle.columns.specs.declared.Decimal.TheVariants.{Plain as PLAIN, Not as NOT}
+use Rattle.std.specs.Prelude.{Option, None}
 use Rattle.columns.specs.Columns.{all_blank}
-use Rattle.columns.specs.Decimals.{is_sign, is_point, behind_all, BehindOne, Digits, ended, from_point, from_digits, from_sign, decimal_in}
+use Rattle.columns.specs.Decimals.{is_sign, is_point, behind_all, BehindOne, Digits, found, ended, from_point, from_digits, from_sign, decimal_in}
 use Rattle.columns.proofs.Fields.{blank_is}
 
-pub too_long : (s : List ℕ) → 18 < length s → NOT ≡ decimal_in s
+pub too_long : (s : List ℕ) → 18 < length s → None ≡ decimal_in s
 unfolding decimal_in
 too_long s l = rw (lt-leb (length s) 18 l)
 
@@ -45,9 +45,9 @@ module _ {s : List ℕ} {from first n e behind m end : ℕ} (f : Found s from fi
   past : (from' : ℕ) {number before end' : ℕ} → Digits s from' before number end' → behind_all is_digit (drop from' s) ≡ drop end' s
   past from' d = drop-drop (length (leading is_digit (drop from' s))) from' s ∙ ap (λ k. drop k s) (sym d.is_end)
 
-  found : ended (eqb (get_or s from 0) 45) digits_whole digits_behind (drop end s) ≡ decimal_in s
+  is_found : ended (eqb (get_or s from 0) 45) digits_whole digits_behind (drop end s) ≡ decimal_in s
   unfolding decimal_in
-  found =
+  is_found =
       let z : from ≡ length (leading is_blank s) = f.blanks ∙ zero-add _ in
       let b : get_or (drop from s) 0 0 ≡ get_or s from 0 = get_or-drop from s 0 0 ∙ ap (λ k. get_or s k 0) (add-zero from) in
       let negative = eqb (get_or s from 0) 45 in
@@ -61,27 +61,27 @@ module _ {s : List ℕ} {from first n e behind m end : ℕ} (f : Found s from fi
   many : (length digits_whole + first ≡ e) × (length digits_behind + behind ≡ end)
   many = (omega (arith, f.whole.is_end), omega (arith, f.rest.is_end))
 
-  pub no_digit : e - first + (end - behind) < 1 → NOT ≡ decimal_in s
-  no_digit l = no (all_blank (drop end s)) _ (lt-leb 1 (length digits_whole + length digits_behind) (omega (arith, many))) ∙ found
+  pub no_digit : e - first + (end - behind) < 1 → None ≡ decimal_in s
+  no_digit l = no (all_blank (drop end s)) _ (lt-leb 1 (length digits_whole + length digits_behind) (omega (arith, many))) ∙ is_found
     where
-      no : (b : Bool) {c : Bool} (d : Decimal) → c ≡ false → NOT ≡ cond (b && c) d NOT
+      no : (b : Bool) {c : Bool} (d : Option Decimal) → c ≡ false → None ≡ cond (b && c) d None
       no true d e = rw e
       no false d e = refl
 
   module _ {r : ℕ} (q : r ≡ end + length (leading is_blank (drop end s))) where
-    pub not_blank : r < length s → NOT ≡ decimal_in s
+    pub not_blank : r < length s → None ≡ decimal_in s
     not_blank l =
         let b : all_blank (drop end s) ≡ false = sym (blank_is (drop end s) refl) ∙ ne_eqb (length (leading is_blank (drop end s))) (length (drop end s)) (λ h. omega (arith, h, length-drop end s)) in
-        cond_rest _ (sym (and_no (leb 1 (length digits_whole + length digits_behind)) b)) refl ∙ found
+        cond_rest _ (sym (and_no (leb 1 (length digits_whole + length digits_behind)) b)) refl ∙ is_found
 
-    pub is_plain : length s ≤ r → 1 ≤ e - first + (end - behind) → {b : ℕ} → b ≡ get_or s from 0 → PLAIN (eqb b 45) m (end - behind) ≡ decimal_in s
+    pub is_plain : length s ≤ r → 1 ≤ e - first + (end - behind) → {b : ℕ} → b ≡ get_or s from 0 → found (eqb b 45) m (end - behind) ≡ decimal_in s
     is_plain l some {b} p =
         let short = leading_short is_blank (drop end s) in
         let h : length (leading is_blank (drop end s)) ≡ length (drop end s) = omega (arith, short, length-drop end s) in
         let t : (all_blank (drop end s) && leb 1 (length digits_whole + length digits_behind)) ≡ true = join (sym (blank_is (drop end s) refl) ∙ eq-eqb _ _ h) (le-leb 1 (length digits_whole + length digits_behind) (omega (arith, many))) in
         let number : m ≡ spelled 0 (digits_whole ++ digits_behind) = f.rest.is_number ∙ ap (λ k. spelled k digits_behind) f.whole.is_number ∙ sym (spelled_append 0 digits_whole digits_behind) in
         let places : end - behind ≡ length digits_behind = omega (arith, many) in
-        plain_as (ap (λ x. eqb x 45) p) number places ∙ sym (rw t) ∙ found
+        plain_as (ap (λ x. eqb x 45) p) number places ∙ sym (rw t) ∙ is_found
       where
-        plain_as : {a b : Bool} {k n i j : ℕ} → a ≡ b → k ≡ n → i ≡ j → PLAIN a k i ≡ PLAIN b n j
-        plain_as p q r = λ i. PLAIN (p i) (q i) (r i)
+        plain_as : {a b : Bool} {k n i j : ℕ} → a ≡ b → k ≡ n → i ≡ j → found a k i ≡ found b n j
+        plain_as p q r = λ i. found (p i) (q i) (r i)

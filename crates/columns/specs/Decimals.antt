@@ -1,13 +1,10 @@
 -- Plain decimals: blanks, a sign or none, digits with at most one point and at least one digit, blanks. `Plain` says it; `decimal_in` finds it, and need not be
 -- believed: specs/Promise.antt says that it finds what `Plain` says, and nothing else.
 -- Assumes nothing.
-use Rattle.std.specs.Prelude.{ℕ, ◌+◌, ◌*◌, ◌/◌, ◌^◌, ◌≤◌, ◌<◌, ◌≡◌, Bool, true, false, cond, ◌&&◌, ◌||◌, List, [], ◌∷◌, ◌++◌, eqb, leb, length, drop, get_or, replicate}
+use Rattle.std.specs.Prelude.{ℕ, ◌+◌, ◌*◌, ◌/◌, ◌^◌, ◌≤◌, ◌<◌, ◌≡◌, Bool, true, false, cond, ◌&&◌, ◌||◌, List, [], ◌∷◌, ◌++◌, eqb, leb, length, drop, get_or, replicate, Option, Some, None}
 use Rattle.digits.specs.Decimals.{is_digit, all_digits, spelled}
-use Rattle.digits.specs.declared.Number.{Number}
-use Rattle.digits.specs.declared.Number.TheVariants.{Is, Bad}
 use Rattle.lines.specs.Words.{leading, is_blank}
 use Rattle.columns.specs.declared.Decimal.{Decimal}
-use Rattle.columns.specs.declared.Decimal.TheVariants.{Plain as PLAIN, Not as NOT}
 use Rattle.columns.specs.Columns.{all_blank}
 
 -- ---- what one is
@@ -55,24 +52,28 @@ behind_all kind s = drop (length (leading kind s)) s
 abbrev pub behind_one : (ℕ → Bool) → List ℕ → List ℕ
 behind_one kind s = cond (kind (get_or s 0 0)) (drop 1 s) s
 
+-- a decimal as it is found
+abbrev pub found : Bool → ℕ → ℕ → Option Decimal
+found negative number places = Some (record { minus = negative; number = number; places = places })
+
 -- with these digits before and behind the point, and this behind them
-abbrev pub ended : Bool → List ℕ → List ℕ → List ℕ → Decimal
+abbrev pub ended : Bool → List ℕ → List ℕ → List ℕ → Option Decimal
 ended negative whole behind s =
-    cond (all_blank s && leb 1 (length whole + length behind)) (PLAIN negative (spelled 0 (whole ++ behind)) (length behind)) NOT
+    cond (all_blank s && leb 1 (length whole + length behind)) (found negative (spelled 0 (whole ++ behind)) (length behind)) None
 
 -- s stands behind these digits
-abbrev pub from_point : Bool → List ℕ → List ℕ → Decimal
+abbrev pub from_point : Bool → List ℕ → List ℕ → Option Decimal
 from_point negative whole s = ended negative whole (leading is_digit (behind_one is_point s)) (behind_all is_digit (behind_one is_point s))
 
-abbrev pub from_digits : Bool → List ℕ → Decimal
+abbrev pub from_digits : Bool → List ℕ → Option Decimal
 from_digits negative s = from_point negative (leading is_digit s) (behind_all is_digit s)
 
-abbrev pub from_sign : List ℕ → Decimal
+abbrev pub from_sign : List ℕ → Option Decimal
 from_sign s = from_digits (eqb (get_or s 0 0) 45) (behind_one is_sign s)
 
 -- a field has at most 18 columns, so that its number has at most 18 digits
-unfoldable pub decimal_in : List ℕ → Decimal
-decimal_in s = cond (leb (length s) 18) (from_sign (behind_all is_blank s)) NOT
+unfoldable pub decimal_in : List ℕ → Option Decimal
+decimal_in s = cond (leb (length s) 18) (from_sign (behind_all is_blank s)) None
 
 -- place r of s stands behind one byte of a kind at place i, or there where none stands
 pub record BehindOne (kind : ℕ → Bool) (s : List ℕ) (i r : ℕ) : Type 0 where
@@ -90,5 +91,5 @@ pub record Digits (s : List ℕ) (from before number end : ℕ) : Type 0 where
 -- ---- whole numbers
 
 -- the whole number that number / 10 ^ places is, if it is one
-unfoldable pub whole_of : ℕ → ℕ → Number
-whole_of number places = cond (eqb (number / 10 ^ places * 10 ^ places) number) (Is (number / 10 ^ places)) Bad
+unfoldable pub whole_of : ℕ → ℕ → Option ℕ
+whole_of number places = cond (eqb (number / 10 ^ places * 10 ^ places) number) (Some (number / 10 ^ places)) None

@@ -1,11 +1,9 @@
 -- What is promised of lines and of plain decimals, which every reader of records stands on.
 -- Assumes nothing.
-use Rattle.std.specs.Prelude.{◌≡◌, ◌↔◌, ◌⊎◌, Bool, true, List, [], ◌∷◌, ◌++◌, ℕ, ◌*◌, ◌^◌, ◌≤◌, ◌<◌, length, drop}
-use Rattle.digits.specs.declared.Number.TheVariants.{Is}
+use Rattle.std.specs.Prelude.{◌≡◌, ◌↔◌, ◌⊎◌, Bool, true, List, [], ◌∷◌, ◌++◌, ℕ, ◌*◌, ◌^◌, ◌≤◌, ◌<◌, length, drop, Some, None}
 use Rattle.lines.specs.Words.{without}
-use Rattle.columns.specs.declared.Decimal.TheVariants.{Plain as PLAIN, Not as NOT}
 use Rattle.columns.specs.Lines.{lines_of, fed, place_behind}
-use Rattle.columns.specs.Decimals.{Plain, decimal_in, whole_of}
+use Rattle.columns.specs.Decimals.{Plain, found, decimal_in, whole_of}
 
 -- s begins with this line, and there the line ends: at a line feed, or with s
 pub record BeginsWith (line s : List ℕ) : Type 0 where
@@ -26,10 +24,10 @@ pub record Lines (s : List ℕ) : Type 0 where
 
 pub record Decimals : Type 0 where
   -- in a field of up to 18 columns a plain decimal is found exactly where one stands, and in a longer one none
-  pub found_exactly : (s : List ℕ) (negative : Bool) (number places : ℕ) → length s ≤ 18 → (decimal_in s ≡ PLAIN negative number places) ↔ Plain s negative number places
-  pub none_in_more : (s : List ℕ) → 18 < length s → decimal_in s ≡ NOT
+  pub found_exactly : (s : List ℕ) (negative : Bool) (number places : ℕ) → length s ≤ 18 → (decimal_in s ≡ found negative number places) ↔ Plain s negative number places
+  pub none_in_more : (s : List ℕ) → 18 < length s → decimal_in s ≡ None
   -- a whole number by value
-  pub whole_exactly : (number places k : ℕ) → (whole_of number places ≡ Is k) ↔ (number ≡ k * 10 ^ places)
+  pub whole_exactly : (number places k : ℕ) → (whole_of number places ≡ Some k) ↔ (number ≡ k * 10 ^ places)
 
 pub record Columns : Type 0 where
   pub lines : (s : List ℕ) → Lines s

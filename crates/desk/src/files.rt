@@ -1,72 +1,29 @@
 // A line answered, with the file that it names.
-ghost use Rattle.std.specs.Prelude.{◌≡◌, ◌≤◌, length};
-
 use leap::Table;
 use std::fs::File;
 use std::io::Read;
-use std::{fs, str};
+use std::{fs, io, str};
 use tablewords::Loaded;
 
-// How many bytes were read, and whether they could be.
-#[derive(Clone, Copy)]
-pub struct Got {
-    pub size: usize,
-    pub fine: bool,
-}
-
-// What a file gives that cannot be read.
-fn unread() -> Got
-    ensures { result.size ≡ 0 }
-{
-    Got {
-        size: 0,
-        fine: false,
-    }
-}
-
-fn read_some(file: &mut File, buf: &mut [u8]) -> Got
-    ensures { result.size ≤ length buf.old }
-{
-    match file.read(buf) {
-        Ok(n) => Got {
-            size: n,
-            fine: true,
-        },
-        Err(_) => unread(),
-    }
-}
-
 // Reads to the end of the file or of the buffer. A directory opens, and cannot be read.
-fn fill(file: &mut File, buf: &mut [u8]) -> Got {
+// while: a read says how many bytes came. Not std's read_to_end, which puts a file of any size on the heap.
+fn fill(file: &mut File, buf: &mut [u8]) -> io::Result<usize> {
     let mut n = 0;
     while n < buf.len() {
-        let g = read_some(file, &mut buf[n..]);
-        if !g.fine {
-            return g;
+        let got = file.read(&mut buf[n..])?;
+        if got == 0 {
+            break;
         }
-        if g.size == 0 {
-            return Got {
-                size: n,
-                fine: true,
-            };
-        }
-        n += g.size;
+        n += got;
     }
-    Got {
-        size: n,
-        fine: true,
-    }
+    Ok(n)
 }
 
 // The standard library opens a file by a name in UTF-8 alone: one of other bytes counts as a file that cannot be read.
-fn read_file(rt: &HostRuntime, path: &[u8], buf: &mut [u8]) -> Got {
-    let Ok(name) = str::from_utf8(path) else {
-        return unread();
-    };
-    let Ok(mut file) = fs::open(rt, name) else {
-        return unread();
-    };
-    fill(&mut file, buf)
+fn read_file(rt: &HostRuntime, path: &[u8], buf: &mut [u8]) -> Option<usize> {
+    let name = str::from_utf8(path).ok()?;
+    let mut file = fs::open(rt, name).ok()?;
+    fill(&mut file, buf).ok()
 }
 
 // One byte more is read than is taken of a kernel or of cards, so that a longer one is seen.
@@ -74,22 +31,26 @@ fn answer_file(
     rt: &HostRuntime,
     path: &[u8],
     line: &[u8],
-    t: Table,
+    t: &Table,
     out: &mut [u8],
     at: usize,
 ) -> Loaded {
     let mut file = [0u8; 65537];
-    let g = read_file(rt, path, &mut file);
-    let n = lines::front(&file, g.size);
-    wording::answer(line, t, g.fine, &file[..n], out, at)
+    let read = read_file(rt, path, &mut file);
+    let n = lines::front(&file, read.unwrap_or(0));
+    wording::answer(line, t, read.is_some(), &file[..n], out, at)
 }
 
-pub(crate) fn answer(rt: &HostRuntime, line: &[u8], t: Table, out: &mut [u8], at: usize) -> Loaded {
-    let p = wording::file_of(line);
-    let from = p.from;
-    let end = p.end;
-    if from < end {
-        return answer_file(rt, &line[from..end], line, t, out, at);
+pub(crate) fn answer(
+    rt: &HostRuntime,
+    line: &[u8],
+    t: &Table,
+    out: &mut [u8],
+    at: usize,
+) -> Loaded {
+    let name = wording::file_of(line);
+    if name.from < name.end {
+        return answer_file(rt, &line[name.from..name.end], line, t, out, at);
     }
     wording::answer(line, t, false, b"", out, at)
 }

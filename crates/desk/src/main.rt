@@ -8,14 +8,18 @@ mod output;
 mod tally;
 mod words;
 
-use input::pump;
+use input::answer_input;
+use output::complain;
 use words::{answer_words, arg_count};
 
 fn main(rt: HostRuntime) {
     let count = arg_count(&rt);
-    if 1 < count {
-        answer_words(&rt, count);
+    let written = if 1 < count {
+        answer_words(&rt, count)
     } else {
-        pump(&rt);
+        answer_input(&rt)
+    };
+    if written.is_err() {
+        complain(&rt, "desk: the output cannot be written");
     }
 }

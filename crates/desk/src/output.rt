@@ -1,14 +1,11 @@
 // What is written, and the complaints.
+use std::io;
+
 pub(crate) fn complain(rt: &HostRuntime, text: &str) {
     let _ = rt.eprintln(text);
 }
 
-// Writes the first n bytes out, and gives whether that was possible.
-pub(crate) fn put(rt: &HostRuntime, out: &[u8], n: usize) -> bool {
-    let e = lines::front(out, n);
-    if rt.write_all(&out[..e]).is_ok() {
-        return true;
-    }
-    complain(rt, "desk: the output cannot be written");
-    false
+// Writes the first n bytes out.
+pub(crate) fn put(rt: &HostRuntime, out: &[u8], n: usize) -> io::Result<()> {
+    rt.write_all(&out[..lines::front(out, n)])
 }

@@ -1,4 +1,4 @@
-// How many lines there were and how many of them were not good, with the numbers of the first 20 of these.
+// How many lines there were and how many of them were not good, with the numbers of the first 20 of these: memory is constant.
 #[derive(Clone, Copy)]
 pub struct Tally {
     pub lines: u64,
@@ -6,44 +6,23 @@ pub struct Tally {
     pub first: [u64; 20],
 }
 
-pub(crate) fn nothing() -> Tally {
-    Tally {
-        lines: 0,
-        bad: 0,
-        first: [0; 20],
+impl Tally {
+    pub(crate) fn new() -> Tally {
+        Tally {
+            lines: 0,
+            bad: 0,
+            first: [0; 20],
+        }
     }
-}
 
-// One more, up to the largest number.
-fn more(n: u64) -> u64 {
-    if n < u64::MAX {
-        return n + 1;
-    }
-    n
-}
-
-// The numbers with a further one at index i, where there is room for it.
-fn noted(numbers: [u64; 20], i: u64, number: u64) -> [u64; 20] {
-    let mut all = numbers;
-    if i < 20 {
-        all[i as usize] = number;
-    }
-    all
-}
-
-pub(crate) fn counted(t: Tally, good: bool) -> Tally {
-    let lines = more(t.lines);
-    let first = t.first;
-    if good {
-        return Tally {
-            lines,
-            bad: t.bad,
-            first,
-        };
-    }
-    Tally {
-        lines,
-        bad: more(t.bad),
-        first: noted(first, t.bad, lines),
+    pub(crate) fn count(&mut self, good: bool) {
+        self.lines = self.lines.saturating_add(1);
+        if good {
+            return;
+        }
+        if self.bad < 20 {
+            self.first[self.bad as usize] = self.lines;
+        }
+        self.bad = self.bad.saturating_add(1);
     }
 }

@@ -2,14 +2,12 @@
 use crate::files::answer;
 use crate::output::put;
 use std::env::{Env, FillError};
+use std::io;
 
 // Whether there is a word i, where the program's name is word 0.
 fn is_there(rt: &HostRuntime, i: usize) -> bool {
     let mut buf = [0u8; 1];
-    match rt.arg(i, &mut buf) {
-        Err(FillError::NotPresent) => false,
-        _ => true,
-    }
+    !matches!(rt.arg(i, &mut buf), Err(FillError::NotPresent))
 }
 
 // How many words there are, the program's name among them.
@@ -31,38 +29,24 @@ fn word(rt: &HostRuntime, i: usize, buf: &mut [u8]) -> usize {
     }
 }
 
-fn blank(i: usize, line: &mut [u8], held: usize) -> usize {
-    if i == 1 {
-        return held;
-    }
-    lines::hold(line, held, b" ")
-}
-
+// Holds word i, behind a blank where it is not the first.
 fn join_word(rt: &HostRuntime, i: usize, line: &mut [u8], held: usize) -> usize {
     let mut buf = [0u8; 1025];
-    let k = word(rt, i, &mut buf);
-    let n = lines::front(&buf, k);
-    let next = blank(i, line, held);
-    lines::hold(line, next, &buf[..n])
+    let n = word(rt, i, &mut buf);
+    let blank: &[u8] = if i == 1 { b"" } else { b" " };
+    let next = lines::hold(line, held, blank);
+    lines::hold(line, next, &buf[..lines::front(&buf, n)])
 }
 
-// The words below `count`.
-fn join(rt: &HostRuntime, line: &mut [u8], count: usize) -> usize {
-    let mut held = 0;
-    let mut i = 1;
-    while i < count {
-        held = join_word(rt, i, line, held);
-        i += 1;
-    }
-    held
-}
-
-pub(crate) fn answer_words(rt: &HostRuntime, count: usize) {
+// Answers the words below `count`. A line has up to 1,024 bytes: one more shows that it has too many.
+pub(crate) fn answer_words(rt: &HostRuntime, count: usize) -> io::Result<()> {
     let mut line = [0u8; 1025];
     let mut out = [0u8; 65536];
-    let held = join(rt, &mut line, count);
+    let mut held = 0;
+    for i in 1..count {
+        held = join_word(rt, i, &mut line, held);
+    }
     let n = lines::front(&line, held);
-    let a = answer(rt, &line[..n], leap::bulletin_c(), &mut out, 0);
-    let said = a.said;
-    put(rt, &out, said.at);
+    let answered = answer(rt, &line[..n], &leap::bulletin_c(), &mut out, 0);
+    put(rt, &out, answered.said.at)
 }

@@ -10,40 +10,29 @@ use native.Mathlib.Omega.{arith}
 use borrow.Author.Tests.{leb-true, le-leb, lt-leb, lt-ltb, le-ltb, ltb-true}
 use lib.Arith.{mod-mul}
 use lib.Dec.{T, lit<, leb, ltb}
-use lib.IntN.{ℤ, pos, negsuc, ◌-ℤ◌, nat_abs}
+use lib.IntN.{ℤ, pos, negsuc, nat_abs}
 use lib.ListN.{length, take, drop, get_or, set, drop_of_length-le}
 use lib.Pow.{pow-add}
 use lib.Seq.{drop-cons, drop_at, set_split, length-take-le}
-use lib.Signed.{lt_z, non_neg}
-use mir.Syntax.{Width, w64}
-use mir.Val.{SFits, hbits, to_z, of_z}
+use lib.Signed.{lt_z}
+use mir.Syntax.{Width}
+use mir.Val.{SFits, to_z, of_z}
 use mir.Facts.{to_z-of_z}
+use Rattle.std.specs.Prelude.{Option, Some, None}
 use Rattle.laws.proofs.Cases.{pick, and_l, and_r, join}
 use Rattle.digits.specs.Bytes.{bytes_at}
 use Rattle.digits.specs.Decimals.{is_digit, digit_value, digit_at, all_digits, spelled, number_at, digits_of, width_of, decimal_text, signed_text, decimal_of, Within}
-use Rattle.digits.specs.declared.Number.{Number}
-use Rattle.digits.specs.declared.Number.TheVariants.{Is, Bad}
 use Rattle.digits.proofs.Bytes.{bytes_length}
 
 -- ---- a digit
 
 module _ (b : ℕ) where
-  pub digit_low : b < 48 → false ≡ is_digit b
-  digit_low h = rw (lt-leb 48 b h)
-
-  pub digit_rest : {r : Bool} → 48 ≤ b → r ≡ leb b 57 → r ≡ is_digit b
-  digit_rest h e = rw (le-leb 48 b h) e
-
   pub digit_range : is_digit b ≡ true → (48 ≤ b) × (b ≤ 57)
   digit_range e = (leb-true 48 b (and_l _ (leb b 57) e), leb-true b 57 (and_r (leb 48 b) _ e))
 
   pub value_digit : is_digit b ≡ true → b - 48 ≡ digit_value b
   unfolding digit_value
   value_digit e = rw e
-
-  pub value_other : is_digit b ≡ false → 0 ≡ digit_value b
-  unfolding digit_value
-  value_other e = rw e
 
 -- ---- at a fixed width
 
@@ -138,10 +127,10 @@ spelled_low (b ∷ l) a = omega (arith, spelled_low l (a * 10 + digit_value b))
 -- ---- free width, in
 
 -- what the bytes after a number give
-abbrev pub judged : ℕ → ℕ → List ℕ → Number
-judged most n s = cond (all_digits s && leb (spelled n s) most) (Is (spelled n s)) Bad
+abbrev pub judged : ℕ → ℕ → List ℕ → Option ℕ
+judged most n s = cond (all_digits s && leb (spelled n s) most) (Some (spelled n s)) None
 
-pub decimal_none : (most : ℕ) (s : List ℕ) → length s ≡ 0 → Bad ≡ decimal_of most s
+pub decimal_none : (most : ℕ) (s : List ℕ) → length s ≡ 0 → None ≡ decimal_of most s
 unfolding decimal_of
 decimal_none most s h = rw (lt-leb 1 (length s) (omega arith))
 
@@ -150,13 +139,13 @@ unfolding decimal_of
 decimal_some most [] h = absurd (h refl)
 decimal_some most (b ∷ s) h = rw (le-leb 1 (suc (length s)) (omega arith))
 
-pub judged_end : (most n i : ℕ) (s : List ℕ) → length s ≤ i → n ≤ most → Is n ≡ judged most n (drop i s)
+pub judged_end : (most n i : ℕ) (s : List ℕ) → length s ≤ i → n ≤ most → Some n ≡ judged most n (drop i s)
 unfolding all_digits spelled
 judged_end most n i s h l = rw (drop_of_length-le s h, le-leb n most l)
 
 -- one turn: `d` is what the bytes from i on give
-module _ (most n i : ℕ) (s : List ℕ) {d : Number} (h : i < length s) (inv : judged most n (drop i s) ≡ d) where
-  pub turn_other : is_digit (get_or s i 0) ≡ false → Bad ≡ d
+module _ (most n i : ℕ) (s : List ℕ) {d : Option ℕ} (h : i < length s) (inv : judged most n (drop i s) ≡ d) where
+  pub turn_other : is_digit (get_or s i 0) ≡ false → None ≡ d
   unfolding all_digits
   turn_other e = rw (drop-cons s i 0 h, e) at inv
 
@@ -171,10 +160,10 @@ module _ (most n i : ℕ) (s : List ℕ) {d : Number} (h : i < length s) (inv : 
     pub turn_more : judged most (n * 10 + v) (drop (i + 1) s) ≡ d
     turn_more = next
 
-    pub turn_large : most < n * 10 + v → Bad ≡ d
+    pub turn_large : most < n * 10 + v → None ≡ d
     turn_large l = never (all_digits (drop (i + 1) s)) _ (lt-leb _ most (omega (arith, spelled_low (drop (i + 1) s) (n * 10 + v)))) next
       where
-        never : (t : Bool) {u : Bool} (x : Number) → u ≡ false → cond (t && u) x Bad ≡ d → Bad ≡ d
+        never : (t : Bool) {u : Bool} (x : Option ℕ) → u ≡ false → cond (t && u) x None ≡ d → None ≡ d
         never true x q f = rw q at f
         never false x q f = f
 
@@ -248,18 +237,6 @@ last_are n {k} e h =
 
 -- ---- the sign
 
-flip : (z : ℤ) → lt_z z (pos 0) ≡ true → negsuc 0 -ℤ z ≡ pos (nat_abs z - 1)
-flip (pos n) e = let h = ltb-true n 0 e in absurd (omega arith)
-flip (negsuc n) e = rw (le-ltb (suc n) 1 (omega arith))
-
-pub size_low : {w : Width} (z : ℤ) → lt_z z (pos 0) ≡ true → SFits w z → (1 ≤ nat_abs z) × (nat_abs z - 1 < 2 ^ hbits w)
-size_low (pos n) e f = let h = ltb-true n 0 e in absurd (omega arith)
-size_low (negsuc n) e f = let h = f.sfits in (omega arith, omega arith)
-
-pub size_high : {w : Width} (z : ℤ) → lt_z z (pos 0) ≡ false → SFits w z → T (non_neg z) × (nat_abs z < 2 ^ hbits w)
-size_high (pos n) e f = (tt, f.sfits)
-size_high (negsuc n) e f = absurd (subst T e tt)
-
 pub text_low : (z : ℤ) → lt_z z (pos 0) ≡ true → 45 ∷ decimal_text (nat_abs z) ≡ signed_text z
 unfolding signed_text
 text_low (pos n) e = let h = ltb-true n 0 e in absurd (omega arith)
@@ -273,19 +250,6 @@ text_high (negsuc n) e = absurd (subst T e tt)
 -- what a test on the bits says of the integer
 pub sign_is : {w : Width} {z : ℤ} {b : Bool} → SFits w z → lt_z (to_z w (of_z w z)) (pos 0) ≡ b → lt_z z (pos 0) ≡ b
 sign_is f e = ap (λ y. lt_z y (pos 0)) (sym (to_z-of_z f)) ∙ e
-
-module _ {z : ℤ} (f : SFits w64 z) (e : lt_z z (pos 0) ≡ true) where
-  flip_fits : SFits w64 (pos (nat_abs z - 1))
-  flip_fits = record { sfits = (size_low z e f).1 }
-
-  flipped : negsuc 0 -ℤ to_z w64 (of_z w64 z) ≡ pos (nat_abs z - 1)
-  flipped = ap (λ y. negsuc 0 -ℤ y) (to_z-of_z f) ∙ flip z e
-
-  pub flipped_fits : SFits w64 (negsuc 0 -ℤ to_z w64 (of_z w64 z))
-  flipped_fits = subst (SFits w64) (sym flipped) flip_fits
-
-  pub flipped_back : to_z w64 (of_z w64 (negsuc 0 -ℤ to_z w64 (of_z w64 z))) ≡ pos (nat_abs z - 1)
-  flipped_back = to_z-of_z flipped_fits ∙ flipped
 
 pub signed_few : (z : ℤ) → length (signed_text z) ≤ 21
 unfolding signed_text

@@ -2,8 +2,8 @@
 -- Assumes nothing.
 use Prim.Native.Nat.{ℕ, zero, suc, ◌+◌, ◌-◌, ◌*◌, ◌/◌, ◌%◌, ◌^◌, ◌≤◌, ◌<◌}
 use mathlib.Core.Path.{◌≡◌, refl, sym, ap, ap₂, ◌∙◌}
-use mathlib.Core.List.{List, [], ◌∷◌, ◌++◌}
-use native.Mathlib.Nat.{zero-add, suc-add, add_comm, one-mul, suc-mul, add-mul, mul_assoc, mul-le-mul_left, one-le-pow, pow-le-pow_right, mod-lt, mod-eq_of_lt, div-eq_of_lt, div-div-eq-div-mul}
+use mathlib.Core.List.{List, ◌∷◌, ◌++◌}
+use native.Mathlib.Nat.{zero-add, suc-add, add_comm, one-mul, add-mul, mul_assoc, one-le-pow, pow-le-pow_right, mod-lt, mod-eq_of_lt, div-div-eq-div-mul}
 use native.Mathlib.Omega.{arith}
 use lib.Arith.{digits_div, digits_mod}
 use lib.Dec.{lit<}
@@ -30,11 +30,6 @@ module _ {n p digit r : ℕ} (low : 48 ≤ digit) (e : n ≡ (digit - 48) * p + 
       let q : n / p % 10 ≡ digit - 48 = ap (λ (x : ℕ). x % 10) (quotient (digit - 48) e l) ∙ mod-eq_of_lt (omega arith) in
       (omega (arith, q), sym (remainder (digit - 48) e l))
 
-  pub once_more : p ≤ r → n ≡ (digit + 1 - 48) * p + (r - p)
-  once_more h =
-      let s : digit + 1 - 48 ≡ suc (digit - 48) = omega arith in
-      rw s (omega (arith, e, suc-mul (digit - 48) p))
-
 -- ---- one digit behind another
 
 -- m is what the places from 10 ^ w down have of n
@@ -51,13 +46,6 @@ module _ (w n : ℕ) {m : ℕ} (e : m ≡ n % 10 ^ suc w) where
   same_rest : m % 10 ^ w ≡ n % 10 ^ w
   same_rest = remainder (n / 10 ^ w % 10) parts inside
 
-  -- its digit is taken, and the digits of the rest come behind it
-  pub next : {d r : ℕ} {l : List ℕ} → (d ≡ digit_at m (10 ^ w)) × (r ≡ m % 10 ^ w) → (r ≡ n % 10 ^ w → l ≡ digits_of w n) → d ∷ l ≡ digits_of (suc w) n
-  next t f = ap₂ (λ (d : ℕ) (l : List ℕ). d ∷ l) (t.0 ∙ same_digit) (f (t.1 ∙ same_rest))
-
-pub last : (n : ℕ) {r : ℕ} → r ≡ n % 10 → (48 + r) ∷ [] ≡ digits_of 1 n
-last n {r} e = ap (λ (d : ℕ). d ∷ []) (omega (arith, e))
-
 -- ---- parts
 
 low_digits : (w n : ℕ) → digits_of w (n % 10 ^ w) ≡ digits_of w n
@@ -73,10 +61,6 @@ apart zero w n = rw zero-add
 apart (suc j) w n =
     let q : n / 10 ^ w / 10 ^ j ≡ n / 10 ^ (j + w) = div-div-eq-div-mul n (10 ^ w) (10 ^ j) ∙ ap (λ (p : ℕ). n / p) (sym (pow-add 10 w j) ∙ ap (λ (k : ℕ). 10 ^ k) (add_comm w j)) in
     rw (suc-add j w) (ap₂ (λ (x : ℕ) (t : List ℕ). (48 + x % 10) ∷ t) q (apart j w n))
-
--- zeros stand before the digits of a short number
-pub zeros_before : (j w : ℕ) {n : ℕ} → n < 10 ^ w → digits_of j 0 ++ digits_of w n ≡ digits_of (j + w) n
-zeros_before j w {n} l = ap (λ (q : ℕ). digits_of j q ++ digits_of w n) (sym (div-eq_of_lt l)) ∙ apart j w n
 
 -- the last 21 digits of a number by nines, the last three of the first stored in front
 pub by_nines : (n : ℕ) {a b d l m o : List ℕ}
@@ -95,11 +79,6 @@ piece k = 1000000000 * 2 ^ k
 
 pub shifted : (k : ℕ) → k < 35 → piece k % 2 ^ 64 ≡ piece k
 shifted k h = mod-eq_of_lt (omega (arith, pow-le-pow_right {n = 2} (lit< tt) {i = k} {j = 34} (omega arith)))
-
-pub pieces_few : (n a k r : ℕ) → n ≡ a * piece k + r → a ≤ n
-pieces_few n a k r e =
-    let one : 1 ≤ piece k = omega (arith, one-le-pow k 2 (lit< tt)) in
-    omega (arith, e, mul-le-mul_left a one)
 
 pub double : (k : ℕ) → 1 ≤ k → piece k ≡ 2 * piece (k - 1)
 double k h = omega (arith, power_once 2 k h)

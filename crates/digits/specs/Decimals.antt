@@ -1,10 +1,8 @@
 -- Decimal numbers and their digits, at a fixed width and at their own.
 -- Assumes nothing.
 use Prim.Native.Char.{code}
-use Rattle.std.specs.Prelude.{ℕ, zero, suc, ◌+◌, ◌-◌, ◌*◌, ◌/◌, ◌%◌, ◌^◌, ◌≤◌, Bool, true, cond, ◌&&◌, List, [], ◌∷◌, leb, ltb, ℤ, pos, negsuc, neg_ℤ, length}
+use Rattle.std.specs.Prelude.{ℕ, zero, suc, ◌+◌, ◌-◌, ◌*◌, ◌/◌, ◌%◌, ◌^◌, ◌≤◌, Bool, true, cond, ◌&&◌, List, [], ◌∷◌, leb, ltb, ℤ, pos, negsuc, neg_ℤ, length, Option, Some, None}
 use Rattle.digits.specs.Bytes.{bytes_at}
-use Rattle.digits.specs.declared.Number.{Number}
-use Rattle.digits.specs.declared.Number.TheVariants.{Is, Bad}
 
 -- ---- out
 
@@ -58,9 +56,9 @@ abbrev pub signed : Bool → ℕ → ℤ
 signed minus n = cond minus (neg_ℤ (pos n)) (pos n)
 
 -- plain digits, one or more, of a number up to most
-unfoldable pub decimal_of : ℕ → List ℕ → Number
-decimal_of most s = cond (leb 1 (length s) && (all_digits s && leb (spelled 0 s) most)) (Is (spelled 0 s)) Bad
+unfoldable pub decimal_of : ℕ → List ℕ → Option ℕ
+decimal_of most s = cond (leb 1 (length s) && (all_digits s && leb (spelled 0 s) most)) (Some (spelled 0 s)) None
 
-abbrev pub Within : ℕ → Number → Type 0
-Within most (Is n) = n ≤ most
-Within most Bad = Unit {0}
+abbrev pub Within : ℕ → Option ℕ → Type 0
+Within most (Some n) = n ≤ most
+Within most None = Unit {0}

@@ -8,13 +8,7 @@ ghost use Rattle.digits.specs.Bytes.{same_bytes, Appended, EndsWith};
 ghost use Rattle.digits.specs.Decimals.{is_digit, digit_value, signed, digit_at, digits_of, width_of, decimal_of, decimal_text, signed_text};
 ghost use Rattle.digits.specs.Months.{month_name, month_named};
 
-#[derive(Clone, Copy)]
-pub enum Number {
-    Is(u64),
-    Bad,
-}
-
-// A text that ends an array: its bytes from `from` on.
+// A text that ends an array: its bytes from `from` on. No heap: an array of fixed size, and where the text in it begins.
 #[derive(Clone, Copy)]
 struct Text {
     bytes: [u8; 21],
@@ -32,10 +26,7 @@ const MONTHS: [u8; 36] = *b"JANFEBMARAPRMAYJUNJULAUGSEPOCTNOVDEC";
 pub fn byte_at(s: &[u8], i: usize) -> u8
     ensures { result ≡ get_or s.now i 0 }
 {
-    if i < s.len() {
-        return s[i];
-    }
-    0
+    s.get(i).copied().unwrap_or(0)
 }
 
 // Stores the bytes of src from index `at` on.
@@ -66,61 +57,48 @@ pub fn append(out: &mut [u8], at: usize, text: &[u8]) -> usize
 pub fn is_digit(b: u8) -> bool
     ensures { result ≡ is_digit b }
 {
-    if b < b'0' {
-        return false;
-    }
-    b <= b'9'
+    matches!(b, b'0'..=b'9')
 }
 
 // What a digit stands for, 0 for any other byte.
+#[tactic(auto, unfolding(crate::specs::Decimals::digit_value))]
 pub fn digit_value(b: u8) -> u8
     ensures { (result ≡ digit_value b) × (result ≤ 9) }
 {
-    if is_digit(b) {
-        return b - b'0';
+    match b {
+        b'0'..=b'9' => b - b'0',
+        _ => 0,
     }
-    0
 }
 
 // The number that a word's digits spell, if it is at most `most`.
-pub fn decimal(word: &[u8], most: u64) -> Number
+pub fn decimal(word: &[u8], most: u64) -> Option<u64>
     ensures { result ≡ decimal_of most word.now }
 {
-    if word.len() == 0 {
-        return Number::Bad;
+    if word.is_empty() {
+        return None;
     }
     let mut n = 0;
-    let mut i = 0;
-    while i < word.len() {
-        let b = word[i];
+    for &b in word {
         if !is_digit(b) {
-            return Number::Bad;
+            return None;
         }
-        let d = digit_value(b) as u64;
-        if LARGEST_TENTH < n {
-            return Number::Bad;
-        }
-        if most < n * 10 {
-            return Number::Bad;
-        }
-        if most - n * 10 < d {
-            return Number::Bad;
+        let d = u64::from(digit_value(b));
+        // std's checked_mul divides, and no 64 bits are divided here.
+        if LARGEST_TENTH < n || most < n * 10 || most - n * 10 < d {
+            return None;
         }
         n = n * 10 + d;
-        i += 1;
     }
-    Number::Is(n)
+    Some(n)
 }
 
 // A number with its sign.
 pub fn with_sign(minus: bool, n: u16) -> i32
     ensures { result ≡ signed minus n }
 {
-    let size = n as i32;
-    if minus {
-        return -size;
-    }
-    size
+    let size = i32::from(n);
+    if minus { -size } else { size }
 }
 
 // ---- decimals out
@@ -128,35 +106,23 @@ pub fn with_sign(minus: bool, n: u16) -> i32
 // The powers of ten of nine places, but for the last.
 const POWERS: [u32; 8] = [100000000, 10000000, 1000000, 100000, 10000, 1000, 100, 10];
 
-// The digit of a power's place, and what is left for the places behind it.
-#[derive(Clone, Copy)]
-struct Taken {
-    digit: u8,
-    rest: u32,
-}
-
-// Takes a power of ten away while it can, at most nine times. Eight of them and one more: of a loop that ends only where the number does,
-// our compiler makes a division.
-fn take_away(n: u32, power: u32) -> Taken
+// The digit of a power's place, and what is left for the places behind it: the power is taken away while it can be, at most nine times.
+// Eight of them and one more: of a loop that ends only where the number does, our compiler makes a division.
+fn take_away(n: u32, power: u32) -> (u8, u32)
     requires { n < 10 * power }
-    ensures { (result.digit ≡ digit_at n power) × (result.rest ≡ n % power) }
+    ensures { (result.0 ≡ digit_at n power) × (result.1 ≡ n % power) }
 {
-    let mut digit = b'0';
     let mut rest = n;
-    while digit < b'8' {
+    for digit in b'0'..b'8' {
         if rest < power {
-            return Taken { digit, rest };
+            return (digit, rest);
         }
         rest -= power;
-        digit += 1;
     }
     if rest < power {
-        return Taken { digit, rest };
+        return (b'8', rest);
     }
-    Taken {
-        digit: b'9',
-        rest: rest - power,
-    }
+    (b'9', rest - power)
 }
 
 // All nine digits of a number that has two at most.
@@ -164,10 +130,10 @@ fn below_hundred(n: u32) -> [u8; 9]
     requires { n < 100 }
     ensures { result ≡ digits_of 9 n }
 {
-    let h = take_away(n, POWERS[7]);
+    let (ten, one) = take_away(n, POWERS[7]);
     let mut out = [b'0'; 9];
-    out[7] = h.digit;
-    out[8] = b'0' + h.rest as u8;
+    out[7] = ten;
+    out[8] = b'0' + one as u8;
     out
 }
 
@@ -176,14 +142,14 @@ fn below_ten_thousand(n: u32) -> [u8; 9]
     requires { n < 10000 }
     ensures { result ≡ digits_of 9 n }
 {
-    let f = take_away(n, POWERS[5]);
-    let g = take_away(f.rest, POWERS[6]);
-    let h = take_away(g.rest, POWERS[7]);
+    let (f, rest) = take_away(n, POWERS[5]);
+    let (g, rest) = take_away(rest, POWERS[6]);
+    let (h, rest) = take_away(rest, POWERS[7]);
     let mut out = [b'0'; 9];
-    out[5] = f.digit;
-    out[6] = g.digit;
-    out[7] = h.digit;
-    out[8] = b'0' + h.rest as u8;
+    out[5] = f;
+    out[6] = g;
+    out[7] = h;
+    out[8] = b'0' + rest as u8;
     out
 }
 
@@ -209,25 +175,16 @@ fn below_billion(n: u32) -> u32
 fn nine_digits(n: u32) -> [u8; 9]
     ensures { result ≡ digits_of 9 n }
 {
-    let a = take_away(below_billion(n), POWERS[0]);
-    let b = take_away(a.rest, POWERS[1]);
-    let c = take_away(b.rest, POWERS[2]);
-    let d = take_away(c.rest, POWERS[3]);
-    let e = take_away(d.rest, POWERS[4]);
-    let f = take_away(e.rest, POWERS[5]);
-    let g = take_away(f.rest, POWERS[6]);
-    let h = take_away(g.rest, POWERS[7]);
-    [
-        a.digit,
-        b.digit,
-        c.digit,
-        d.digit,
-        e.digit,
-        f.digit,
-        g.digit,
-        h.digit,
-        b'0' + h.rest as u8,
-    ]
+    // No loop over the powers: it misses the bar of speed, since the compiler keeps the table on the stack.
+    let (a, rest) = take_away(below_billion(n), POWERS[0]);
+    let (b, rest) = take_away(rest, POWERS[1]);
+    let (c, rest) = take_away(rest, POWERS[2]);
+    let (d, rest) = take_away(rest, POWERS[3]);
+    let (e, rest) = take_away(rest, POWERS[4]);
+    let (f, rest) = take_away(rest, POWERS[5]);
+    let (g, rest) = take_away(rest, POWERS[6]);
+    let (h, rest) = take_away(rest, POWERS[7]);
+    [a, b, c, d, e, f, g, h, b'0' + rest as u8]
 }
 
 // The last nine decimal digits of a number, by subtraction alone. A shorter field takes the last of them, a fraction the last six.
@@ -244,33 +201,21 @@ pub fn digits(n: u32) -> [u8; 9]
     nine_digits(n)
 }
 
-// How many thousand millions a number has, and what is left.
-#[derive(Clone, Copy)]
-struct Parts {
-    above: u64,
-    below: u32,
-}
-
-// Long division in binary: there is no divide, and digits are made in 32 bits.
-fn split(n: u64) -> Parts
-    ensures { (result.above ≡ n / 1000000000) × (result.below ≡ n % 1000000000) }
+// How many thousand millions a number has, and what is left. Long division in binary: there is no divide, and digits are made in 32 bits.
+fn split(n: u64) -> (u64, u32)
+    ensures { (result.0 ≡ n / 1000000000) × (result.1 ≡ n % 1000000000) }
 {
     let mut above = 0;
     let mut rest = n;
-    let mut k = 35u32;
-    while 0 < k {
-        k -= 1;
+    for k in (0..35u32).rev() {
         let part = 1000000000 << k;
-        above = above * 2;
+        above *= 2;
         if part <= rest {
             rest -= part;
             above += 1;
         }
     }
-    Parts {
-        above,
-        below: rest as u32,
-    }
+    (above, rest as u32)
 }
 
 // All of its digits, behind one more place: a zero, free for a sign.
@@ -283,11 +228,11 @@ fn all_places(size: u64) -> [u8; 21]
         put(&mut out, 12, &c);
         return out;
     }
-    let low = split(size);
-    let high = split(low.above);
-    let a = digits(high.above as u32);
-    let b = digits(high.below);
-    let c = digits(low.below);
+    let (above, low) = split(size);
+    let (top, middle) = split(above);
+    let a = digits(top as u32);
+    let b = digits(middle);
+    let c = digits(low);
     put(&mut out, 0, &a[6..]);
     put(&mut out, 3, &b);
     put(&mut out, 12, &c);
@@ -298,19 +243,14 @@ fn all_places(size: u64) -> [u8; 21]
 fn width(n: u64) -> usize
     ensures { (result ≡ width_of 20 n) × (1 ≤ result) × (result ≤ 20) }
 {
-    let mut k = 1;
     let mut power = 10;
-    while k < 19 {
+    for k in 1..19 {
         if n < power {
             return k;
         }
-        power = power * 10;
-        k += 1;
+        power *= 10;
     }
-    if n < power {
-        return 19;
-    }
-    20
+    if n < power { 19 } else { 20 }
 }
 
 fn unsigned_text(n: u64) -> Text
@@ -327,10 +267,7 @@ fn unsigned_text(n: u64) -> Text
 pub fn magnitude(z: i64) -> u64
     ensures { result ≡ nat_abs z }
 {
-    if z < 0 {
-        return ((-1 - z) as u64) + 1;
-    }
-    z as u64
+    z.unsigned_abs()
 }
 
 // Appends a number in decimal.
@@ -338,18 +275,14 @@ pub fn append_unsigned(out: &mut [u8], at: usize, n: u64) -> usize
     ensures { Appended out.old at (decimal_text n) result out.new }
 {
     let text = unsigned_text(n);
-    let bytes = text.bytes;
-    let first = text.from;
-    append(out, at, &bytes[first..])
+    append(out, at, &text.bytes[text.from..])
 }
 
 // Appends a number in decimal, with `-` in front where it is negative.
 pub fn append_signed(out: &mut [u8], at: usize, z: i64) -> usize
     ensures { Appended out.old at (signed_text z) result out.new }
 {
-    let text = unsigned_text(magnitude(z));
-    let mut bytes = text.bytes;
-    let from = text.from;
+    let Text { mut bytes, from } = unsigned_text(magnitude(z));
     if z < 0 {
         bytes[from - 1] = b'-';
         return append(out, at, &bytes[from - 1..]);
@@ -371,26 +304,21 @@ pub fn month_name(month: u32) -> [u8; 3]
 fn is_named(month: u32, a: u8, b: u8, c: u8) -> bool
     ensures { result ≡ same_bytes (month_name month) (a ∷ b ∷ c ∷ []) }
 {
-    let name = month_name(month);
-    if name[0] != a {
-        return false;
-    }
-    if name[1] != b {
-        return false;
-    }
-    name[2] == c
+    // Letter by letter: `== [a, b, c]` took three to four times as long.
+    let [x, y, z] = month_name(month);
+    x == a && y == b && z == c
 }
 
-// The month from 1 to 12 of this name, 0 for any other bytes.
+// The month from 1 to 12 of this name, 0 for any other bytes: `month_named` of specs/, which the promises on texts cite, has this 0.
 pub fn month_named(a: u8, b: u8, c: u8) -> u32
     ensures { result ≡ month_named (a ∷ b ∷ c ∷ []) }
 {
-    let mut month = 12;
-    while 0 < month {
+    // No range in reverse: it took twice as long.
+    for passed in 0..12 {
+        let month = 12 - passed;
         if is_named(month, a, b, c) {
             return month;
         }
-        month -= 1;
     }
     0
 }

@@ -1,6 +1,6 @@
 -- Words: the next one of a line, one by its first byte, and what each gives.
 -- Assumes nothing.
-use mathlib.Core.Path.{◌≡◌, refl, ap}
+use mathlib.Core.Path.{◌≡◌, refl}
 use mathlib.Core.Bool.{Bool, true, false, cond}
 use mathlib.Core.List.{List, [], ◌∷◌}
 use Prim.Native.Nat.{ℕ, zero, suc, ◌+◌, ◌-◌, ◌*◌, ◌^◌, ◌≤◌, ◌<◌}
@@ -9,22 +9,19 @@ use native.Mathlib.Numerals.{add-one}
 use native.Mathlib.Omega.{arith}
 use borrow.Author.Tests.{lt-ltb, le-ltb, eq-eqb, ne_eqb}
 use lib.Dec.{eqb, lit<}
-use lib.IntN.{pos, negsuc, ◌-ℤ◌, neg_ℤ}
-use lib.ListN.{length, take, drop, get_or, drop_of_length-le, length-take, length-drop, get_or-eq_default}
+use lib.ListN.{length, take, drop, get_or, drop_of_length-le, get_or-eq_default}
 use lib.Seq.{drop-cons, take_all}
 use mir.Syntax.{Width}
 use mir.Val.{SFits, hbits}
+use Rattle.std.specs.Prelude.{Option, Some, None}
+use lib.IntN.{ℤ}
 use Rattle.digits.specs.Decimals.{decimal_of, Within}
-use Rattle.digits.specs.declared.Number.{Number}
-use Rattle.digits.specs.declared.Number.TheVariants.{Is, Bad}
 use Rattle.digits.proofs.Decimals.{decimal_within}
 use Rattle.lines.specs.Words.{before}
 use Rattle.lines.specs.Pairs.{nibble, paired, hex_of, hex_into}
 use Rattle.lines.proofs.Words.{before_front}
 use Rattle.lines.proofs.Pairs.{into_none}
 use Rattle.fields.specs.Words.{word_at, end_at, dashed, natural_of, negative, positive, integer_of, hex_word, nibbled, pattern_of}
-use Rattle.fields.specs.declared.Integer.{Integer}
-use Rattle.fields.specs.declared.Integer.TheVariants.{Whole, NotWhole}
 
 -- ---- the next word and its end
 
@@ -62,9 +59,9 @@ module _ {A : Type 0} (none : A) (minus plain : List ℕ → A) where
 
 -- ---- numbers
 
-pub within_more : (m n : ℕ) (a : Number) → m ≤ n → Within m a → Within n a
-within_more m n (Is k) h w = omega arith
-within_more m n Bad h w = tt
+pub within_more : (m n : ℕ) (a : Option ℕ) → m ≤ n → Within m a → Within n a
+within_more m n (Some k) h w = omega arith
+within_more m n None h w = tt
 
 pub natural_within : (most : ℕ) (s : List ℕ) → Within most (natural_of most s)
 unfolding natural_of dashed
@@ -75,19 +72,19 @@ natural_within most (b ∷ s) = go (eqb b 45)
     go true = within_more 0 most (decimal_of 0 s) (omega arith) (decimal_within 0 s)
     go false = decimal_within most (b ∷ s)
 
-abbrev pub Fitting : Width → Integer → Type 0
-Fitting w (Whole z) = SFits w z
-Fitting w NotWhole = Unit {0}
+abbrev pub Fitting : Width → Option ℤ → Type 0
+Fitting w (Some z) = SFits w z
+Fitting w None = Unit {0}
 
 module _ (w : Width) (most : ℕ) (h : most < 2 ^ hbits w) where
-  negative_fits : (a : Number) → Within (most + 1) a → Fitting w (negative a)
-  negative_fits Bad k = tt
-  negative_fits (Is zero) k = record { sfits = omega arith }
-  negative_fits (Is (suc n)) k = record { sfits = omega arith }
+  negative_fits : (a : Option ℕ) → Within (most + 1) a → Fitting w (negative a)
+  negative_fits None k = tt
+  negative_fits (Some zero) k = record { sfits = omega arith }
+  negative_fits (Some (suc n)) k = record { sfits = omega arith }
 
-  positive_fits : (a : Number) → Within most a → Fitting w (positive a)
-  positive_fits Bad k = tt
-  positive_fits (Is n) k = record { sfits = omega arith }
+  positive_fits : (a : Option ℕ) → Within most a → Fitting w (positive a)
+  positive_fits None k = tt
+  positive_fits (Some n) k = record { sfits = omega arith }
 
   pub integer_fits : (s : List ℕ) → Fitting w (integer_of most s)
   unfolding integer_of dashed
@@ -98,17 +95,6 @@ module _ (w : Width) (most : ℕ) (h : most < 2 ^ hbits w) where
       go true = negative_fits (decimal_of (most + 1) s) (decimal_within (most + 1) s)
       go false = positive_fits (decimal_of most (b ∷ s)) (decimal_within most (b ∷ s))
 
-pub minus : (m : ℕ) → negsuc 0 -ℤ pos m ≡ negsuc m
-minus zero = refl
-minus (suc m) = ap negsuc (omega arith)
-
-pub neg_is : (n : ℕ) → (n ≡ 0 → ⊥) → negsuc (n - 1) ≡ neg_ℤ (pos n)
-neg_is zero h = absurd (h refl)
-neg_is (suc n) h = ap negsuc (omega arith)
-
-pub low_fits : {w : Width} (m : ℕ) → m < 2 ^ hbits w → SFits w (negsuc m)
-low_fits m h = record { sfits = h }
-
 -- ---- bytes
 
 dash_none : (s : List ℕ) → get_or s 0 0 ≡ 45 → paired s ≡ []
@@ -117,62 +103,52 @@ dash_none [] e = refl
 dash_none (a ∷ []) e = refl
 dash_none (a ∷ b ∷ s) e = rw e
 
-after_dash : List ℕ → Number
-after_dash rest = cond (eqb (length rest) 0) (Is 0) Bad
+after_dash : List ℕ → Option ℕ
+after_dash rest = cond (eqb (length rest) 0) (Some 0) None
 
 module _ (room : ℕ) (s : List ℕ) (some : length s ≡ 0 → ⊥) where
   word_dash : get_or s 0 0 ≡ 45 → after_dash (take (length s - 1) (drop 1 s)) ≡ hex_word room s
   unfolding hex_word after_dash
-  word_dash e = dash_minus Bad after_dash (hex_of room) s some e
+  word_dash e = dash_minus None after_dash (hex_of room) s some e
 
   pub word_plain : (get_or s 0 0 ≡ 45 → ⊥) → hex_of room s ≡ hex_word room s
   unfolding hex_word after_dash
-  word_plain e = dash_plain Bad after_dash (hex_of room) s some e
+  word_plain e = dash_plain None after_dash (hex_of room) s some e
 
 empty_none : (s : List ℕ) → length s ≡ 0 → paired s ≡ []
 unfolding paired
 empty_none [] h = refl
 empty_none (b ∷ s) h = absurd (omega arith)
 
-rest_length : (s : List ℕ) → length (take (length s - 1) (drop 1 s)) ≡ length s - 1
-rest_length s = simp (length-take, length-drop) (omega arith)
-
 module _ (out s : List ℕ) where
-  pub hex_empty : length s ≡ 0 → (Bad ≡ hex_word (length out) s) × (out ≡ hex_into out s)
+  pub hex_empty : length s ≡ 0 → (None ≡ hex_word (length out) s) × (out ≡ hex_into out s)
   unfolding hex_word
-  hex_empty h = (dash_empty Bad _ (hex_of (length out)) s h, into_none out s (empty_none s h))
+  hex_empty h = (dash_empty None _ (hex_of (length out)) s h, into_none out s (empty_none s h))
 
   module _ (some : length s ≡ 0 → ⊥) (e : get_or s 0 0 ≡ 45) where
-    pub hex_dash : length s ≡ 1 → (Is 0 ≡ hex_word (length out) s) × (out ≡ hex_into out s)
-    unfolding after_dash
-    hex_dash h =
-        let n : length s - 1 ≡ 0 = omega arith in
-        (rw (rest_length s, eq-eqb (length s - 1) 0 n) at (word_dash (length out) s some e), into_none out s (dash_none s e))
+    module _ {empty : Bool} (h : eqb (length (take (length s - 1) (drop 1 s))) 0 ≡ empty) where
+      pub hex_dash : empty ≡ true → (Some 0 ≡ hex_word (length out) s) × (out ≡ hex_into out s)
+      unfolding after_dash
+      hex_dash q = (rw (h, q) at (word_dash (length out) s some e), into_none out s (dash_none s e))
 
-    pub hex_dashed : (length s ≡ 1 → ⊥) → (Bad ≡ hex_word (length out) s) × (out ≡ hex_into out s)
-    unfolding after_dash
-    hex_dashed h =
-        let n : length s - 1 ≡ 0 → ⊥ = λ q. h (one (length s) some q) in
-        (rw (rest_length s, ne_eqb (length s - 1) 0 n) at (word_dash (length out) s some e), into_none out s (dash_none s e))
-      where
-        one : (n : ℕ) → (n ≡ 0 → ⊥) → n - 1 ≡ 0 → n ≡ 1
-        one zero k q = absurd (k refl)
-        one (suc n) k q = omega arith
+      pub hex_dashed : empty ≡ false → (None ≡ hex_word (length out) s) × (out ≡ hex_into out s)
+      unfolding after_dash
+      hex_dashed q = (rw (h, q) at (word_dash (length out) s some e), into_none out s (dash_none s e))
 
 -- ---- sixteen digits
 pub nibbled_more : (n i b : ℕ) (s : List ℕ) → i < length s → b ≡ nibble (get_or s i 0) → b < 16 → nibbled n (drop i s) ≡ nibbled (n * 16 + b) (drop (i + 1) s)
 unfolding nibbled
 nibbled_more n i b s h e l = rw (drop-cons s i 0 h, ← e, lt-ltb b 16 l, add-one)
 
-pub nibbled_bad : (n i b : ℕ) (s : List ℕ) → i < length s → b ≡ nibble (get_or s i 0) → 16 ≤ b → nibbled n (drop i s) ≡ Bad
+pub nibbled_bad : (n i b : ℕ) (s : List ℕ) → i < length s → b ≡ nibble (get_or s i 0) → 16 ≤ b → nibbled n (drop i s) ≡ None
 unfolding nibbled
 nibbled_bad n i b s h e l = rw (drop-cons s i 0 h, ← e, le-ltb b 16 l)
 
-pub nibbled_end : (n i : ℕ) (s : List ℕ) → length s ≤ i → nibbled n (drop i s) ≡ Is n
+pub nibbled_end : (n i : ℕ) (s : List ℕ) → length s ≤ i → nibbled n (drop i s) ≡ Some n
 unfolding nibbled
 nibbled_end n i s h = rw (drop_of_length-le s h)
 
-pub pattern_short : (s : List ℕ) → (length s ≡ 16 → ⊥) → Bad ≡ pattern_of s
+pub pattern_short : (s : List ℕ) → (length s ≡ 16 → ⊥) → None ≡ pattern_of s
 unfolding pattern_of
 pattern_short s h = rw (ne_eqb (length s) 16 h)
 

@@ -8,206 +8,142 @@ ghost use Rattle.std.specs.Float.Ieee.{of_bits, to_bits};
 ghost use Rattle.digits.specs.Decimals.{Within};
 ghost use Rattle.lines.specs.Pairs.{hex_into};
 ghost use Rattle.fields.specs.Words.{word_at, end_at, natural_of, integer_of, negative as Words·negative, positive as Words·positive, hex_word, pattern_of};
-ghost use Rattle.fields.specs.Fields.{field_of, signed_of, natural_at, integer_at, hex_at, pattern_at};
+ghost use Rattle.fields.specs.Fields.{field_of, natural_at, integer_at, hex_at, pattern_at};
 
-use digits::Number;
-
-// Stands at the blank before the next word; at the end, and not fine, once a field was bad.
+// Stands at the blank before the next word; at the end, and not fine, once a field was bad. No Option: the promises on each field speak of
+// `at` and `fine`, and `fine` is asked once, at the end.
 #[derive(Clone, Copy)]
 pub struct Cursor {
     pub at: usize,
     pub fine: bool,
 }
 
-#[derive(Clone, Copy)]
-enum Integer {
-    Whole(i64),
-    NotWhole,
-}
-
 // A field's value and the cursor after it; 0 and a lost cursor where it is bad.
 #[derive(Clone, Copy)]
-pub struct Field {
-    pub value: u64,
+pub struct Field<T> {
+    pub value: T,
     pub next: Cursor,
-}
-
-#[derive(Clone, Copy)]
-pub struct U32Field {
-    pub value: u32,
-    pub next: Cursor,
-}
-
-#[derive(Clone, Copy)]
-pub struct I64Field {
-    pub value: i64,
-    pub next: Cursor,
-}
-
-#[derive(Clone, Copy)]
-pub struct I32Field {
-    pub value: i32,
-    pub next: Cursor,
-}
-
-// A word is the bytes from `from` up to `end`.
-#[derive(Clone, Copy)]
-struct Word {
-    from: usize,
-    end: usize,
 }
 
 // ---- words
 
-// The bounds of the next word; none where no blank stands at the cursor.
-fn next_word(line: &[u8], at: usize) -> Word
-    ensures { (take (result.end - result.from) (drop result.from line.now) ≡ word_at line.now at) × (result.end ≡ end_at line.now at) × (result.from ≤ result.end) × (result.end ≤ length line.now) }
+// The next word and where it ends; no word where no blank stands at the cursor.
+fn next_word(line: &[u8], at: usize) -> (&[u8], usize)
+    ensures { (result.0.now ≡ word_at line.now at) × (result.1 ≡ end_at line.now at) }
 {
-    if line.len() <= at {
-        return Word { from: 0, end: 0 };
+    if line.len() <= at || line[at] != b' ' {
+        return (&line[..0], 0);
     }
-    if line[at] != 32 {
-        return Word { from: 0, end: 0 };
-    }
-    let end = lines::until(line, at + 1, 32);
-    Word { from: at + 1, end }
+    let end = lines::until(line, at + 1, b' ');
+    (&line[at + 1..end], end)
 }
 
 // Whether every field was fine and the line ends here.
 pub fn ended(line: &[u8], c: Cursor) -> bool
     ensures { result ≡ (c.fine && eqb c.at (length line.now)) }
 {
-    if c.fine {
-        return c.at == line.len();
-    }
-    false
+    c.fine && c.at == line.len()
 }
 
 // ---- words as values
 
 // A decimal number up to `most`, and `-0` is 0.
-fn natural(word: &[u8], most: u64) -> Number
+fn natural(word: &[u8], most: u64) -> Option<u64>
     ensures { result ≡ natural_of most word.now }
 {
-    if word.len() == 0 {
-        return Number::Bad;
+    let [first, rest @ ..] = word else {
+        return None;
+    };
+    if *first == b'-' {
+        digits::decimal(rest, 0)
+    } else {
+        digits::decimal(word, most)
     }
-    if word[0] == 45 {
-        return digits::decimal(&word[1..], 0);
-    }
-    digits::decimal(word, most)
 }
 
 fn negated(n: u64) -> i64
     requires { n ≤ 2 ^ 63 }
     ensures { result ≡ neg_ℤ (pos n) }
 {
-    if n == 0 {
-        return 0;
-    }
-    -1 - ((n - 1) as i64)
+    if n == 0 { 0 } else { -1 - ((n - 1) as i64) }
 }
 
-fn negative(a: Number) -> Integer
+fn negative(a: Option<u64>) -> Option<i64>
     requires { Within (2 ^ 63) a }
     ensures { result ≡ Words·negative a }
 {
-    match a {
-        Number::Is(n) => Integer::Whole(negated(n)),
-        Number::Bad => Integer::NotWhole,
-    }
+    a.map(negated)
 }
 
-fn positive(a: Number) -> Integer
+fn positive(a: Option<u64>) -> Option<i64>
     requires { Within (2 ^ 63 - 1) a }
     ensures { result ≡ Words·positive a }
 {
-    match a {
-        Number::Is(n) => Integer::Whole(n as i64),
-        Number::Bad => Integer::NotWhole,
-    }
+    a.map(|n| n as i64)
 }
 
 // A decimal number from -(most + 1) to most.
-fn whole(word: &[u8], most: u64) -> Integer
+fn whole(word: &[u8], most: u64) -> Option<i64>
     requires { most < 2 ^ 63 }
     ensures { result ≡ integer_of most word.now }
 {
-    if word.len() == 0 {
-        return Integer::NotWhole;
+    let [first, rest @ ..] = word else {
+        return None;
+    };
+    if *first == b'-' {
+        negative(digits::decimal(rest, most + 1))
+    } else {
+        positive(digits::decimal(word, most))
     }
-    if word[0] == 45 {
-        return negative(digits::decimal(&word[1..], most + 1));
-    }
-    positive(digits::decimal(word, most))
 }
 
 // The bytes of a word of hex pairs, or none for `-`.
-fn hex_word(word: &[u8], out: &mut [u8]) -> Number
+fn hex_word(word: &[u8], out: &mut [u8]) -> Option<u64>
     ensures { (result ≡ hex_word (length out.old) word.now) × (out.new ≡ hex_into out.old word.now) }
 {
-    if word.len() == 0 {
-        return Number::Bad;
+    let [first, rest @ ..] = word else {
+        return None;
+    };
+    if *first != b'-' {
+        lines::hex(word, out)
+    } else if rest.is_empty() {
+        Some(0)
+    } else {
+        None
     }
-    if word[0] == 45 {
-        if word.len() == 1 {
-            return Number::Is(0);
-        }
-        return Number::Bad;
-    }
-    lines::hex(word, out)
 }
 
 // The number of sixteen hex digits.
-fn bits_of(word: &[u8]) -> Number
+fn bits_of(word: &[u8]) -> Option<u64>
     ensures { result ≡ pattern_of word.now }
 {
     if word.len() != 16 {
-        return Number::Bad;
+        return None;
     }
-    let mut n: u64 = 0;
-    let mut i = 0;
-    while i < 16 {
-        let d = lines::hex_digit(word[i]);
+    let mut n = 0;
+    for b in word {
+        let d = lines::hex_digit(*b);
         if 15 < d {
-            return Number::Bad;
+            return None;
         }
-        n = n * 16 + d as u64;
-        i += 1;
+        n = n * 16 + u64::from(d);
     }
-    Number::Is(n)
+    Some(n)
 }
 
 // ---- fields
 
-fn filled(a: Number, fine: bool, end: usize, size: usize) -> Field
-    ensures { result ≡ field_of a fine end size }
+// The field of a word that ends at `end`; `bad` is its value where it is bad, which loses the cursor to the line's end.
+fn filled<T: Copy>(a: Option<T>, bad: T, fine: bool, end: usize, size: usize) -> Field<T>
+    ensures { result ≡ field_of bad a fine end size }
 {
     match a {
-        Number::Is(n) => Field {
-            value: n,
+        Some(value) => Field {
+            value,
             next: Cursor { at: end, fine },
         },
-        Number::Bad => Field {
-            value: 0,
-            next: Cursor {
-                at: size,
-                fine: false,
-            },
-        },
-    }
-}
-
-fn signed(a: Integer, fine: bool, end: usize, size: usize) -> I64Field
-    ensures { result ≡ signed_of a fine end size }
-{
-    match a {
-        Integer::Whole(z) => I64Field {
-            value: z,
-            next: Cursor { at: end, fine },
-        },
-        Integer::NotWhole => I64Field {
-            value: 0,
+        None => Field {
+            value: bad,
             next: Cursor {
                 at: size,
                 fine: false,
@@ -217,78 +153,66 @@ fn signed(a: Integer, fine: bool, end: usize, size: usize) -> I64Field
 }
 
 // The next word as a number up to `most`.
-pub fn number_field(line: &[u8], c: Cursor, most: u64) -> Field
+pub fn number_field(line: &[u8], c: Cursor, most: u64) -> Field<u64>
     ensures { result ≡ natural_at most line.now c }
 {
-    let w = next_word(line, c.at);
-    let from = w.from;
-    let end = w.end;
-    let a = natural(&line[from..end], most);
-    filled(a, c.fine, end, line.len())
+    let (word, end) = next_word(line, c.at);
+    filled(natural(word, most), 0, c.fine, end, line.len())
 }
 
 // The next word as a u32.
-pub fn u32_field(line: &[u8], c: Cursor) -> U32Field
+pub fn u32_field(line: &[u8], c: Cursor) -> Field<u32>
     ensures { (result.value ≡ (natural_at (2 ^ 32 - 1) line.now c).value) × (result.next ≡ (natural_at (2 ^ 32 - 1) line.now c).next) }
 {
-    let f = number_field(line, c, 4294967295);
-    let next = f.next;
-    U32Field {
-        value: f.value as u32,
+    let Field { value, next } = number_field(line, c, 4294967295);
+    Field {
+        value: value as u32,
         next,
     }
 }
 
-fn integer_field(line: &[u8], c: Cursor, most: u64) -> I64Field
+fn integer_field(line: &[u8], c: Cursor, most: u64) -> Field<i64>
     requires { most < 2 ^ 63 }
     ensures { result ≡ integer_at most line.now c }
 {
-    let w = next_word(line, c.at);
-    let from = w.from;
-    let end = w.end;
-    let a = whole(&line[from..end], most);
-    signed(a, c.fine, end, line.len())
+    let (word, end) = next_word(line, c.at);
+    filled(whole(word, most), 0, c.fine, end, line.len())
 }
 
 // The next word as an i64.
-pub fn i64_field(line: &[u8], c: Cursor) -> I64Field
+pub fn i64_field(line: &[u8], c: Cursor) -> Field<i64>
     ensures { result ≡ integer_at (2 ^ 63 - 1) line.now c }
 {
     integer_field(line, c, 9223372036854775807)
 }
 
 // The next word as an i32.
-pub fn i32_field(line: &[u8], c: Cursor) -> I32Field
+pub fn i32_field(line: &[u8], c: Cursor) -> Field<i32>
     ensures { (result.value ≡ (integer_at (2 ^ 31 - 1) line.now c).value) × (result.next ≡ (integer_at (2 ^ 31 - 1) line.now c).next) }
 {
-    let f = integer_field(line, c, 2147483647);
-    let after = f.next;
-    I32Field {
-        value: f.value as i32,
-        next: after,
+    let Field { value, next } = integer_field(line, c, 2147483647);
+    Field {
+        value: value as i32,
+        next,
     }
 }
 
 // The next word as bytes, and how many they are.
-pub fn hex_field(line: &[u8], c: Cursor, out: &mut [u8]) -> Field
+pub fn hex_field(line: &[u8], c: Cursor, out: &mut [u8]) -> Field<u64>
     ensures { (result ≡ hex_at (length out.old) line.now c) × (out.new ≡ hex_into out.old (word_at line.now c.at)) }
 {
-    let w = next_word(line, c.at);
-    let from = w.from;
-    let end = w.end;
-    let count = hex_word(&line[from..end], out);
-    filled(count, c.fine, end, line.len())
+    let (word, end) = next_word(line, c.at);
+    let count = hex_word(word, out);
+    filled(count, 0, c.fine, end, line.len())
 }
 
 // The next word as the bit pattern of a double.
-pub fn pattern_field(line: &[u8], c: Cursor) -> Field
+pub fn pattern_field(line: &[u8], c: Cursor) -> Field<u64>
     ensures { result ≡ pattern_at line.now c }
 {
-    let w = next_word(line, c.at);
-    let from = w.from;
-    let end = w.end;
-    let bits = bits_of(&line[from..end]);
-    filled(bits, c.fine, end, line.len())
+    let (word, end) = next_word(line, c.at);
+    let bits = bits_of(word);
+    filled(bits, 0, c.fine, end, line.len())
 }
 
 // ---- doubles
@@ -298,17 +222,19 @@ pub fn double(bits: u64) -> f64
     ensures { result ≡ of_bits binary64 bits }
 {
     if 0x7ff0_0000_0000_0000 < bits % 0x8000_0000_0000_0000 {
-        return 0.0 / 0.0;
+        f64::NAN
+    } else {
+        f64::from_bits(bits)
     }
-    f64::from_bits(bits)
 }
 
 // The bit pattern of a double, one fixed pattern for a NaN.
 pub fn pattern(x: f64) -> u64
     ensures { result ≡ to_bits binary64 x }
 {
-    if x != x {
-        return 0x7ff8_0000_0000_0000;
+    if x.is_nan() {
+        0x7ff8_0000_0000_0000
+    } else {
+        x.to_bits()
     }
-    f64::to_bits(x)
 }

@@ -1,6 +1,7 @@
 -- Whole numbers and a half, from a double's bit pattern: its bit of one half is set and none below it.
 -- Assumes nothing.
-use Rattle.std.proofs.Common.{◌≡◌, ℕ, ◌+◌, ◌-◌, ◌*◌, ◌/◌, ◌%◌, ◌^◌, ◌<◌, ◌≤◌, false, eqb, sym, refl, ap, ◌∙◌, subst, true≢false, lt_of_lt_of_le, mul_assoc, mul_comm, add-mul, div-add-mod', mul_right_comm, arith, lit<, pow_pos, pow_mono, pow-add, shl_lt, eq-eqb, ne_eqb, eqb-true}
+use Rattle.std.proofs.Common.{◌≡◌, ℕ, ◌+◌, ◌-◌, ◌*◌, ◌/◌, ◌%◌, ◌^◌, ◌<◌, ◌≤◌, false, eqb, sym, refl, ap, ◌∙◌, subst, true≢false, lt_of_lt_of_le, mul_assoc, mul_comm, add-mul, div-add-mod', mul_right_comm, arith, lit<, pow_pos, pow_mono, pow-add, shl_lt, eq-eqb, ne_eqb, eqb-true, ap₂, mod-eq_of_lt, one-mul}
+use lib.Pow.{pow-lt}
 use native.Mathlib.Nat.{eq_of_mul-eq-mul_right, mod-le, mul-mod_left}
 use lib.Ieee.{Float, nan, inf, fin, binary64, of_bits}
 use lib.Ieee.Nearest.{div_same}
@@ -46,6 +47,10 @@ only_real nan h = refl
 only_real (inf s) h = refl
 only_real (fin s m e) h = absurd (true≢false h)
 
+-- 2 ^ k as the machine's shift gives it
+bit : (k : ℕ) → k < 64 → 1 * 2 ^ k % 2 ^ 64 ≡ 2 ^ k
+bit k h = ap (λ (z : ℕ). z % 2 ^ 64) (one-mul (2 ^ k)) ∙ mod-eq_of_lt (pow-lt h)
+
 -- ---- a pattern and its field
 module _ (b x : ℕ) (is : x ≡ field_of b) where
   abbrev v : Float
@@ -75,7 +80,7 @@ module _ (b x : ℕ) (is : x ≡ field_of b) where
   high g = by_order x 2047 (whole g) (λ l. only_real v (not_real b x is l))
 
   -- the digits' last 1075 - x bits are the rest
-  pub middle : 1022 ≤ x → x ≤ 1074 → eqb (digits_of b % 2 ^ (1075 - x)) (2 ^ (1074 - x)) ≡ is_half (of_bits binary64 b)
+  middle : 1022 ≤ x → x ≤ 1074 → eqb (digits_of b % 2 ^ (1075 - x)) (2 ^ (1074 - x)) ≡ is_half (of_bits binary64 b)
   middle l h =
       let t = 1075 - x in
       let q = digits_of b in
@@ -83,3 +88,7 @@ module _ (b x : ℕ) (is : x ≡ field_of b) where
       let twice : 2 ^ t ≡ 2 ^ (1074 - x) * 2 = ap (λ (z : ℕ). 2 ^ z) one ∙ pow-add 2 (1074 - x) 1 in
       same_test (q % 2 ^ t) (2 ^ (1074 - x)) (q % 2 ^ t * 2) (2 ^ t) (λ d. ap (λ (z : ℕ). z * 2) d ∙ sym twice) (λ d. eq_of_mul-eq-mul_right 2 (lit< tt) (q % 2 ^ t) (2 ^ (1074 - x)) (d ∙ twice))
       ∙ by_value v q (2 ^ t) (pow_pos t) (by_digits b x is (omega arith) (omega arith))
+
+  -- as the machine's shifts give both powers
+  pub middle_bits : 1022 ≤ x → x ≤ 1074 → eqb (digits_of b % (1 * 2 ^ (1075 - x) % 2 ^ 64)) (1 * 2 ^ (1074 - x) % 2 ^ 64) ≡ is_half (of_bits binary64 b)
+  middle_bits l h = ap₂ (λ (d h : ℕ). eqb (digits_of b % d) h) (bit (1075 - x) (omega arith)) (bit (1074 - x) (omega arith)) ∙ middle l h

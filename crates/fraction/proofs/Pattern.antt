@@ -1,8 +1,8 @@
 -- What a double's bit pattern says of its size num / den: the digits, times 2 to the exponent's field less one, in units of 2 ^ -1074.
 -- Assumes nothing.
-use Rattle.std.proofs.Common.{◌≡◌, ℕ, zero, suc, ◌+◌, ◌-◌, ◌*◌, ◌%◌, ◌^◌, ◌<◌, ◌≤◌, Bool, true, false, eqb, ltb, leb, sym, refl, ap, ◌∙◌, subst, lt_of_lt_of_le, lt_irrefl, mul-le-mul_right, mod-lt, mul_assoc, mul_comm, mul-le-mul, add_comm, lt_of_mul-lt-mul_right, mul-lt-mul_of_pos_right, mul_right_comm, le_of_mul-le-mul_right, arith, pow_pos, pow_mono, pow-add, shl_lt, le-ltb, lt-ltb, eqb-true}
+use Rattle.std.proofs.Common.{◌≡◌, ℕ, zero, suc, ◌+◌, ◌-◌, ◌*◌, ◌%◌, ◌^◌, ◌<◌, ◌≤◌, Bool, true, false, eqb, ltb, leb, sym, refl, ap, ◌∙◌, subst, lt_of_lt_of_le, lt_irrefl, mul-le-mul_right, mod-lt, mul_assoc, mul_comm, mul-le-mul, add_comm, lt_of_mul-lt-mul_right, mul-lt-mul_of_pos_right, mul_right_comm, le_of_mul-le-mul_right, arith, pow_pos, pow_mono, pow-add, shl_lt, le-ltb, lt-ltb, eqb-true, pos, true≢false}
 use native.Mathlib.Nat.{eq_of_mul-eq-mul_right}
-use lib.Ieee.{Float, nan, inf, fin, binary64, odd, of_fields, of_bits}
+use lib.Ieee.{Float, nan, inf, fin, binary64, odd, of_fields, is_nan, of_bits}
 use lib.Ieee.Digits.{Equals, odd_val}
 use lib.Ieee.Scale.{finite}
 use lib.Ieee.Positive.{num, den, den_pos}
@@ -56,6 +56,22 @@ fields s (suc j) t h p =
 endless : (s : Bool) (t : ℕ) → finite (of_fields binary64 s 2047 t) ≡ false
 unfolding of_fields
 endless s t = pick (λ (v : Float). finite v ≡ false) (eqb t 0) (λ e. refl) (λ e. refl)
+
+-- ---- a number's pattern, and the patterns of the code's constants
+
+pub nan_read : (x : Float) → is_nan x ≡ true → of_bits binary64 0x7ff8_0000_0000_0000 ≡ x
+unfolding is_nan of_bits
+nan_read nan e = refl
+nan_read (inf s) e = absurd (true≢false (sym e))
+nan_read (fin s m k) e = absurd (true≢false (sym e))
+
+pub zero_read : of_bits binary64 0 ≡ fin false 0 (pos 0)
+unfolding of_bits
+zero_read = refl
+
+pub one_read : of_bits binary64 0x3ff0_0000_0000_0000 ≡ fin false 1 (pos 0)
+unfolding of_bits
+one_read = refl
 
 -- ---- a pattern and its field
 module _ (b x : ℕ) (is : x ≡ field_of b) where

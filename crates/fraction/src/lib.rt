@@ -10,6 +10,7 @@ ghost use Rattle.fraction.specs.Bits.{field_of, digits_of};
 // ---- written
 
 // One rounded division.
+#[tactic(auto, unfolding(crate::specs::Fraction::fraction_of))]
 pub fn fraction_of(part: u64, whole: u64) -> f64
     ensures { result ≡ fraction_of whole part }
 {
@@ -19,58 +20,52 @@ pub fn fraction_of(part: u64, whole: u64) -> f64
 // ---- read
 
 // At least 0 and below 1. Minus zero is one.
+#[tactic(auto, using(crate::proofs::Pattern::zero_read, crate::proofs::Pattern::one_read), unfolding(crate::specs::Fraction::is_fraction))]
 pub fn is_fraction(x: f64) -> bool
     ensures { result ≡ is_fraction x }
 {
-    if 0.0 <= x {
-        return x < 1.0;
-    }
-    false
+    0.0 <= x && x < 1.0
 }
 
 // NaN has many patterns, and any of them will do.
+#[tactic(auto, using(crate::proofs::Pattern::nan_read))]
 fn bits_of(x: f64) -> u64
     ensures { from_bits binary64 result ≡ x }
 {
-    if x != x {
-        return 9221120237041090560;
+    if x.is_nan() {
+        0x7ff8_0000_0000_0000
+    } else {
+        f64::to_bits(x)
     }
-    f64::to_bits(x)
 }
 
 // A double with a field above 0 is digits * 2^(field - 1075), up to its sign.
 fn field_of(bits: u64) -> u64
     ensures { result ≡ field_of bits }
 {
-    bits % 9223372036854775808 / 4503599627370496
+    (bits >> 52) & 0x7ff
 }
 
 // The leading one is not among the bits.
 fn digits_of(bits: u64) -> u64
     ensures { result ≡ digits_of bits }
 {
-    bits % 4503599627370496 + 4503599627370496
+    bits % (1 << 52) + (1 << 52)
 }
 
 // A whole number and a half, of either sign: the bit of one half is set and none below it.
-#[tactic(auto, using(crate::proofs::Halves::low, crate::proofs::Halves::high))]
+#[tactic(auto, using(crate::proofs::Halves::low, crate::proofs::Halves::high, crate::proofs::Halves::middle_bits))]
 pub fn is_half(x: f64) -> bool
     ensures { result ≡ is_half x }
 {
     let bits = bits_of(x);
     let field = field_of(bits);
-    if field < 1022 {
-        // Below a half.
-        return false;
-    }
-    if 1074 < field {
-        // From 2^52 on there are no halves.
-        return false;
-    }
-    digits_of(bits) % (1 << (1075 - field)) == 1 << (1074 - field)
+    // Below a half there are none, nor from 2^52 on.
+    (1022..=1074).contains(&field) && digits_of(bits) % (1 << (1075 - field)) == 1 << (1074 - field)
 }
 
 // The part nearest to the exact size of a double below 1, a tie to the larger.
+#[tactic(auto, using(crate::proofs::Reading::none, crate::proofs::Reading::some, crate::proofs::Reading::halves_few))]
 fn nearest_in(bits: u64, field: u64, factor: u64, shift: u64) -> u64
     requires field_value { (field ≡ field_of bits) × (field < 1023) }
     requires factor_bound { (factor < 2 ^ 37) × (shift ≤ 26) }
@@ -80,12 +75,10 @@ fn nearest_in(bits: u64, field: u64, factor: u64, shift: u64) -> u64
         // Below 2^-(38 + shift), which is less than half a part.
         return 0;
     }
-    let digits = digits_of(bits);
-    let high = digits / 67108864 * factor;
-    let low = digits % 67108864 * factor / 67108864;
-    // Half parts, the rest dropped: the product without its last 26 bits, and then these.
-    let halves = (high + low) >> (1048 - (field + shift));
-    (halves + 1) / 2
+    let product = u128::from(digits_of(bits)) * u128::from(factor);
+    // Half parts, the rest dropped.
+    let halves = (product >> (1074 - (field + shift))) as u64;
+    halves.div_ceil(2)
 }
 
 // The sign is not looked at. 0 where the size is not below 1, and for a whole that is not of this form.
@@ -95,13 +88,7 @@ pub fn nearest_of(x: f64, factor: u64, shift: u64) -> u64
 {
     let bits = bits_of(x);
     let field = field_of(bits);
-    if 1023 <= field {
-        return 0;
-    }
-    if 137438953472 <= factor {
-        return 0;
-    }
-    if 26 < shift {
+    if 1023 <= field || 1 << 37 <= factor || 26 < shift {
         return 0;
     }
     nearest_in(bits, field, factor, shift)

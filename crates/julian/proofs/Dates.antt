@@ -1,11 +1,12 @@
 -- The pair that is written for an instant, and what a pair is read as, each with the reading that stands for the instant.
 -- Assumes nothing.
+use Rattle.std.specs.Prelude.{Result, Ok, Err}
 use Rattle.std.proofs.Common.{◌≡◌, ℕ, ◌+◌, ◌<◌, ◌≤◌, true, false, T, leb, [], ◌∷◌, ◌++◌, ℤ, sym, refl, ap, ◌∙◌, subst, ap₂, arith, ltb-true, lt-ltb, le-leb, leb-true}
 use Rattle.laws.proofs.Branches.{cond_yes, cond_rest}
 use Rattle.laws.proofs.Cases.{by_test, and_l, and_r, join}
 use Rattle.answer.specs.declared.Refusal.{Refusal}
 use Rattle.answer.specs.declared.Refusal.TheVariants.{Range as RANGE}
-use Rattle.answer.proofs.Orders.{none_refused, was_passed, number_some}
+use Rattle.answer.proofs.Orders.{none_refused, number_some}
 use Rattle.leap.specs.declared.Table.{Table}
 use Rattle.leap.specs.Leap.{accepted}
 use Rattle.leap.proofs.Facts.{accepted_to}
@@ -18,11 +19,11 @@ use Rattle.labels.proofs.Lengths.{day_range}
 use Rattle.labels.proofs.Readings.{micro_less, day_between, reading_on}
 use Rattle.stamp.specs.declared.Scale.{Scale}
 use Rattle.stamp.specs.declared.Stamp.{Stamp}
-use Rattle.stamp.specs.declared.InstantAnswer.TheVariants.{At, Refused as NoInstant}
 use Rattle.stamp.specs.Scales.{scale_of, known_scale, scale_tests, offsets_of, most_second, instant_for}
 use Rattle.stamp.specs.Back.{in_range, stamp_at}
 use Rattle.stamp.specs.Days.{day_start, instant_after}
 use Rattle.stamp.specs.Promise.{Reads}
+use Rattle.stamp.proofs.First.{was_given, same_given}
 use Rattle.stamp.proofs.Scales.{most_sixty, most_of}
 use Rattle.stamp.proofs.Days.{instant_by_day}
 use Rattle.stamp.proofs.Promise.{back_reads, in_range_reads, reads_stamp}
@@ -30,8 +31,6 @@ use Rattle.fraction.specs.Fraction.{nearest_of}
 use Rattle.fraction.specs.Promise.{Parts}
 use Rattle.fraction.proofs.Promise.{parts}
 use Rattle.julian.specs.declared.JulianDate.{JulianDate}
-use Rattle.julian.specs.declared.JulianAnswer.{JulianAnswer}
-use Rattle.julian.specs.declared.JulianAnswer.TheVariants.{Dated, Refused}
 use Rattle.julian.specs.Midnight.{midnight_in_years, day_number}
 use Rattle.julian.specs.Dates.{pair_of, write_julian, julian_results, nearest_in, same_day, day_read, micro_read, read_tests, read_julian}
 use Rattle.julian.specs.Promise.{IsPair}
@@ -41,15 +40,9 @@ use Rattle.julian.proofs.Midnight.{midnight_fine, day_back, years_fine}
 -- ---- an instant with its pair
 
 -- from an answer's numbers back to the answer
-pub at_pair : (a : JulianAnswer) (p : JulianDate) → julian_results a ≡ (0, p) → a ≡ Dated p
-at_pair (Dated q) p e = ap (λ v. Dated v.1) e
-at_pair (Refused why) p e = absurd (number_some why (ap (λ v. v.0) e))
-
-no_pair : (p : JulianDate) (why : Refusal) → Refused why ≡ Dated p → ⊥
-no_pair p why e = let z : ◌≡◌ {A = ℕ} 0 1 = cc in omega arith
-
-no_instant : (x : ℤ) (why : Refusal) → NoInstant why ≡ At x → ⊥
-no_instant x why e = let z : ◌≡◌ {A = ℕ} 0 1 = cc in omega arith
+pub at_pair : (a : Result JulianDate Refusal) (p : JulianDate) → julian_results a ≡ (0, p) → a ≡ Ok p
+at_pair (Ok q) p e = ap (λ v. Ok v.1) e
+at_pair (Err why) p e = absurd (number_some why (ap (λ v. v.0) e))
 
 -- what a pair that was written says, by a reading that stands for the instant
 pub record Given (t : Table) (k : ℕ) (x : ℤ) (p : JulianDate) (r : Reading) : Type 0 where
@@ -58,31 +51,28 @@ pub record Given (t : Table) (k : ℕ) (x : ℤ) (p : JulianDate) (r : Reading) 
   pub reads : Reads t (scale_of k) r x
   pub pair_is : pair_of (offsets_of t (scale_of k)) r ≡ p
 
-same_pair : {p q : JulianDate} → Dated q ≡ Dated p → q ≡ p
-same_pair e = cc
-
-pub write_given : (t : Table) (k : ℕ) (x : ℤ) (p : JulianDate) → write_julian t x k ≡ Dated p → (r : Reading) × Given t k x p r
+pub write_given : (t : Table) (k : ℕ) (x : ℤ) (p : JulianDate) → write_julian t x k ≡ Ok p → (r : Reading) × Given t k x p r
 unfolding write_julian
 write_given t k x p e =
-    let g = was_passed Refused (scale_tests t k ++ (in_range t (scale_of k) x, RANGE) ∷ []) _ (Dated p) (no_pair p) e in
+    let g = was_given (scale_tests t k ++ (in_range t (scale_of k) x, RANGE) ∷ []) p e in
     let all = g.0 in
     let known : known_scale k ≡ true = search (and_l) in
     let fine : accepted t ≡ true = search (and_l, and_r) in
     let range : in_range t (scale_of k) x ≡ true = search (and_l, and_r) in
-    ((stamp_at t (scale_of k) x).reading, record { known = known; fine = fine; reads = back_reads t (accepted_to t fine) (scale_of k) x range; pair_is = same_pair g.1 })
+    ((stamp_at t (scale_of k) x).reading, record { known = known; fine = fine; reads = back_reads t (accepted_to t fine) (scale_of k) x range; pair_is = same_given g.1 })
 
 -- an instant that a reading stands for is written as the pair of the reading
-pub write_from : (t : Table) (k : ℕ) → known_scale k ≡ true → accepted t ≡ true → (r : Reading) (x : ℤ) → Reads t (scale_of k) r x → write_julian t x k ≡ Dated (pair_of (offsets_of t (scale_of k)) r)
+pub write_from : (t : Table) (k : ℕ) → known_scale k ≡ true → accepted t ≡ true → (r : Reading) (x : ℤ) → Reads t (scale_of k) r x → write_julian t x k ≡ Ok (pair_of (offsets_of t (scale_of k)) r)
 unfolding write_julian
 write_from t k known fine r x b =
-    none_refused Refused (scale_tests t k ++ (in_range t (scale_of k) x, RANGE) ∷ []) _ (join known (join fine (join ((in_range_reads t fine (scale_of k) x).1 (r, b)) refl)))
-    ∙ ap (λ (z : Stamp). Dated (pair_of (offsets_of t (scale_of k)) z.reading)) (reads_stamp t fine (scale_of k) r x b)
+    none_refused Err (scale_tests t k ++ (in_range t (scale_of k) x, RANGE) ∷ []) _ (join known (join fine (join ((in_range_reads t fine (scale_of k) x).1 (r, b)) refl)))
+    ∙ ap (λ (z : Stamp). Ok (pair_of (offsets_of t (scale_of k)) z.reading)) (reads_stamp t fine (scale_of k) r x b)
 
 -- whichever reading it is
-pub given_by : (t : Table) (k : ℕ) (x : ℤ) (p : JulianDate) → write_julian t x k ≡ Dated p → (r : Reading) → Reads t (scale_of k) r x → Given t k x p r
+pub given_by : (t : Table) (k : ℕ) (x : ℤ) (p : JulianDate) → write_julian t x k ≡ Ok p → (r : Reading) → Reads t (scale_of k) r x → Given t k x p r
 given_by t k x p e r b =
     let g = (write_given t k x p e).1 in
-    record { known = g.known; fine = g.fine; reads = b; pair_is = same_pair (sym (write_from t k g.known g.fine r x b) ∙ e) }
+    record { known = g.known; fine = g.fine; reads = b; pair_is = same_given (sym (write_from t k g.known g.fine r x b) ∙ e) }
 
 -- a reading that exists with a second up to 60 is one of the scale's own
 pub on_scale : (t : Table) → accepted t ≡ true → (s : Scale) (r : Reading) → Admitted (offsets_of t s) 60 r → Admitted (offsets_of t s) (most_second s) r
@@ -177,10 +167,10 @@ module _ (t : Table) (k : ℕ) (p : JulianDate) (x : ℤ) where
   by_day r a e f =
       instant_by_day t (scale_of k) r a.exists.day_low a.exists.day_high ∙ ap₂ (λ (n u : ℕ). instant_after (scale_of k) (day_start o' n) u) e f
 
-  pub read_given : read_julian t k p ≡ At x → (known_scale k ≡ true) × (accepted t ≡ true) × IsPair p × ReadOn t k p x
+  pub read_given : read_julian t k p ≡ Ok x → (known_scale k ≡ true) × (accepted t ≡ true) × IsPair p × ReadOn t k p x
   unfolding read_julian instant
   read_given e =
-      let g = was_passed NoInstant (scale_tests t k ++ read_tests o' p) _ (At x) (no_instant x) e in
+      let g = was_given (scale_tests t k ++ read_tests o' p) x e in
       let all = g.0 in
       let fine : accepted t ≡ true = search (and_l, and_r) in
       let years : midnight_in_years p.midnight ≡ true = search (and_l, and_r) in
@@ -194,29 +184,26 @@ module _ (t : Table) (k : ℕ) (p : JulianDate) (x : ℤ) where
         record { is_midnight = search (and_l, and_r); is_fraction_lem = search (and_l, and_r); in_years_lem = years },
         record {
           reading = r;
-          reads = record { is_admitted = admitted_from o' (most_second (scale_of k)) r a; instant_is = by_day r a found.2 found.3 ∙ same_instant g.1 };
+          reads = record { is_admitted = admitted_from o' (most_second (scale_of k)) r a; instant_is = by_day r a found.2 found.3 ∙ same_given g.1 };
           day_is = found.2;
           micro_is = found.3;
         },
       )
-    where
-      same_instant : {y : ℤ} → At y ≡ At x → y ≡ x
-      same_instant q = cc
 
-  pub read_from : known_scale k ≡ true → accepted t ≡ true → IsPair p → ReadOn t k p x → read_julian t k p ≡ At x
+  pub read_from : known_scale k ≡ true → accepted t ≡ true → IsPair p → ReadOn t k p x → read_julian t k p ≡ Ok x
   unfolding read_julian instant
   read_from known fine i s =
       let r = s.reading in
       let a = admitted_to o' (most_second (scale_of k)) r s.reads.is_admitted in
-      none_refused NoInstant (scale_tests t k ++ read_tests o' p) _
+      none_refused Err (scale_tests t k ++ read_tests o' p) _
       (join known (join fine (join i.is_midnight (join i.is_fraction_lem (join i.in_years_lem (join (le-leb (day_read o' p) last_day (omega (arith, in_days t k r a, s.day_is))) refl))))))
-      ∙ ap At (sym (by_day r a s.day_is s.micro_is) ∙ s.reads.instant_is)
+      ∙ ap Ok (sym (by_day r a s.day_is s.micro_is) ∙ s.reads.instant_is)
 
 -- a reading's own pair is read as its instant
-pub own_back : (t : Table) (k : ℕ) (x : ℤ) (p : JulianDate) (r : Reading) → Given t k x p r → read_julian t k p ≡ At x
+pub own_back : (t : Table) (k : ℕ) (x : ℤ) (p : JulianDate) (r : Reading) → Given t k x p r → read_julian t k p ≡ Ok x
 own_back t k x p r g =
     let o = offsets_of t (scale_of k) in
     let a = admitted_to o (most_second (scale_of k)) r g.reads.is_admitted in
     let q = pair_read t k r a in
-    subst (λ (v : JulianDate). read_julian t k v ≡ At x) g.pair_is
+    subst (λ (v : JulianDate). read_julian t k v ≡ Ok x) g.pair_is
     (read_from t k (pair_of o r) x g.known g.fine (pair_fine t k r a) (record { reading = r; reads = g.reads; day_is = q.0; micro_is = q.1 }))

@@ -3,6 +3,7 @@
 use Rattle.std.proofs.Common.{◌≡◌, ℕ, ◌+◌, ◌*◌, ◌≤◌, true, false, eqb, ℤ, pos, negsuc, ◌+ℤ◌, neg_ℤ, sym, refl, ap, ◌∙◌, subst, arith, le-ltb, leb-true}
 use borrow.Author.Tests.{lt-leb}
 use lib.Ieee.{fin, binary64, of_bits, of_int, div, add, le, lt, eq}
+use Rattle.std.specs.Prelude.{Ok}
 use Rattle.laws.proofs.Cases.{by_order}
 use Rattle.laws.specs.Tests.{eq_z, all_below}
 use Rattle.months.specs.Months.{leap_year, month_length, days_before}
@@ -19,7 +20,6 @@ use Rattle.stamp.specs.Scales.{scale_of, known_scale, offsets_of, most_second, t
 use Rattle.stamp.specs.Promise.{Reads}
 use Rattle.fraction.specs.Fraction.{fraction_of, is_fraction, is_half, nearest_of}
 use Rattle.julian.specs.declared.JulianDate.{JulianDate}
-use Rattle.julian.specs.declared.JulianAnswer.TheVariants.{Dated}
 use Rattle.julian.specs.Midnight.{midnight_of, midnight_in_years, day_number}
 use Rattle.julian.specs.Dates.{pair_at, julian_results, nearest_in, day_read, read_julian}
 use Rattle.julian.specs.Promise.{Writes, ReadAs, ReadRefused, offsets_on, IsPair}
@@ -43,7 +43,7 @@ module _ (t : Table) (fine : accepted t ≡ true) (k : ℕ) (known : known_scale
       ap (length_in o (day_count r.label)) (sym (label_falls r.label e.day_low e.day_high))
 
   row : (r : Reading) (x : ℤ) → Reads t (scale_of k) r x → Writes t k x (pair_at (day_count r.label) (micro_of_day r) (length_in o (day_count r.label) (month_of r.label)))
-  row r x b = ap julian_results (write_from t k known fine r x b ∙ ap (λ (n : ℕ). Dated (pair_at (day_count r.label) (micro_of_day r) n)) (own_month r x b))
+  row r x b = ap julian_results (write_from t k known fine r x b ∙ ap (λ (n : ℕ). Ok (pair_at (day_count r.label) (micro_of_day r) n)) (own_month r x b))
 
   -- read, by the reading r and the midnight b of the pair's day
   module _ (p : JulianDate) (i : IsPair p) (b : Reading) (y : ℤ) (begun : Reads t (scale_of k) b y) (day : day_count b.label ≡ day_number p.midnight) where

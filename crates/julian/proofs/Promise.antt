@@ -2,6 +2,7 @@
 -- Assumes nothing.
 use Rattle.std.proofs.Common.{◌≡◌, ℕ, Bool, true, false, leb, [], ◌∷◌, ℤ, pos, sym, refl, ap, ◌∙◌, subst, arith, le-leb, leb-true}
 use lib.Ieee.{Float, fin, le, lt}
+use Rattle.std.specs.Prelude.{Ok, Err}
 use Rattle.answer.specs.declared.Refusal.TheVariants.{Ask as ASK, Table as TABLE, Number as NUMBER, Range as RANGE}
 use Rattle.answer.specs.Refusals.{refusing}
 use Rattle.leap.specs.declared.Table.{Table}
@@ -10,13 +11,11 @@ use Rattle.labels.specs.declared.Reading.{Reading}
 use Rattle.labels.specs.Seconds.{day_count, micro_of_day, last_day}
 use Rattle.labels.specs.Lengths.{day_micros}
 use Rattle.labels.proofs.Admitted.{Admitted, admitted_to}
-use Rattle.stamp.specs.declared.InstantAnswer.TheVariants.{At, Refused}
 use Rattle.stamp.specs.Scales.{scale_of, known_scale, most_second}
 use Rattle.stamp.specs.Stamps.{instant_results}
 use Rattle.stamp.proofs.Promise.{at_instant}
 use Rattle.fraction.specs.Fraction.{is_fraction, is_half, nearest_of}
 use Rattle.julian.specs.declared.JulianDate.{JulianDate}
-use Rattle.julian.specs.declared.JulianAnswer.TheVariants.{Dated}
 use Rattle.julian.specs.Midnight.{midnight_in_years, day_number}
 use Rattle.julian.specs.Dates.{julian_results, day_read, micro_read, read_julian}
 use Rattle.julian.specs.Promise.{Writes, ReadAs, ReadRefused, offsets_on, Near, Pairs}
@@ -41,7 +40,7 @@ minus_zero t k m = refl
 
 -- ---- the tests in their order: known scale, table, midnight, fraction, years, years again
 
-six : (a b c d e f : Bool) (x : ℤ) → (instant_results (refusing Refused ((a, ASK) ∷ (b, TABLE) ∷ (c, NUMBER) ∷ (d, NUMBER) ∷ (e, RANGE) ∷ (f, RANGE) ∷ []) (At x))).0 ≡ 6 → ⊥
+six : (a b c d e f : Bool) (x : ℤ) → (instant_results (refusing Err ((a, ASK) ∷ (b, TABLE) ∷ (c, NUMBER) ∷ (d, NUMBER) ∷ (e, RANGE) ∷ (f, RANGE) ∷ []) (Ok x))).0 ≡ 6 → ⊥
 six true true true true true true x h = omega arith
 six true true true true true false x h = omega arith
 six true true true true false f x h = omega arith
@@ -66,7 +65,7 @@ module _ (t : Table) where
       record {
         written_exactly = λ k x p. (
           λ w. let g = given k x p w in (leb-true k 3 g.1.known, g.1.fine, (g.0, g.1.reads, sym g.1.pair_is)),
-          λ g. ap julian_results (write_from t k (le-leb k 3 g.0) g.1 g.2.0 x g.2.1 ∙ ap Dated (sym g.2.2)),
+          λ g. ap julian_results (write_from t k (le-leb k 3 g.0) g.1 g.2.0 x g.2.1 ∙ ap Ok (sym g.2.2)),
         );
         written_near = λ k x p r w b. near t k x p r (given_by t k x p (at_pair _ p w) r b);
         read_exactly = λ k p x. (
@@ -80,7 +79,7 @@ module _ (t : Table) where
         none_shared = λ k x y p w v. ap (λ a. a.1) (sym (back k x p w) ∙ back k y p v);
         uniform_written = λ k x p h. (
           λ w. let g = given k x p w in (leb-true k 3 g.1.known, g.1.fine, (g.0, g.1.reads, sym g.1.pair_is ∙ pair_even t k h x g.0 g.1.reads)),
-          λ g. ap julian_results (write_from t k (le-leb k 3 g.0) g.1 g.2.0 x g.2.1 ∙ ap Dated (pair_even t k h x g.2.0 g.2.1 ∙ sym g.2.2)),
+          λ g. ap julian_results (write_from t k (le-leb k 3 g.0) g.1 g.2.0 x g.2.1 ∙ ap Ok (pair_even t k h x g.2.0 g.2.1 ∙ sym g.2.2)),
         );
         uniform_read = λ k p x h. (
           λ e.

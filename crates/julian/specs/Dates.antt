@@ -1,7 +1,7 @@
 -- The pair of a reading, the microseconds that a pair is read as, and the calls. The promise speaks of `pair_of` and `nearest_in`; what a call does with them need not be believed:
 -- `Pairs` of Promise says exactly when each answer is given.
 -- Assumes nothing.
-use Rattle.std.specs.Prelude.{ℕ, ◌+◌, Bool, false, cond, List, [], ◌∷◌, ◌++◌, ℤ, pos, nat_le, nat_lt}
+use Rattle.std.specs.Prelude.{ℕ, ◌+◌, Bool, false, cond, List, [], ◌∷◌, ◌++◌, ℤ, pos, nat_le, nat_lt, Result, Ok, Err}
 use Rattle.std.specs.Float.{fin}
 use Rattle.answer.specs.declared.Refusal.{Refusal}
 use Rattle.answer.specs.declared.Refusal.TheVariants.{Number as NUMBER, Range as RANGE}
@@ -12,15 +12,11 @@ use Rattle.labels.specs.Labels.{Offsets}
 use Rattle.labels.specs.Seconds.{day_count, micro_of_day, last_day}
 use Rattle.labels.specs.Lengths.{day_micros}
 use Rattle.stamp.specs.declared.Scale.{Scale}
-use Rattle.stamp.specs.declared.InstantAnswer.{InstantAnswer}
-use Rattle.stamp.specs.declared.InstantAnswer.TheVariants.{At, Refused as NoInstant}
 use Rattle.stamp.specs.Scales.{scale_of, scale_tests, offsets_of}
 use Rattle.stamp.specs.Back.{in_range, stamp_at}
 use Rattle.stamp.specs.Days.{day_start, instant_after}
 use Rattle.fraction.specs.Fraction.{fraction_of, is_fraction, is_half, nearest_of}
 use Rattle.julian.specs.declared.JulianDate.{JulianDate}
-use Rattle.julian.specs.declared.JulianAnswer.{JulianAnswer}
-use Rattle.julian.specs.declared.JulianAnswer.TheVariants.{Dated, Refused}
 use Rattle.julian.specs.Midnight.{midnight_of, midnight_in_years, day_number}
 
 -- ---- written
@@ -34,16 +30,16 @@ abbrev pub pair_of : Offsets → Reading → JulianDate
 pair_of o r = pair_at (day_count r.label) (micro_of_day r) (day_micros o (day_count r.label))
 
 -- `write_julian`, without its mark; `stamp_at` is the way back, which need not be believed
-unfoldable pub write_julian : Table → ℤ → ℕ → JulianAnswer
+unfoldable pub write_julian : Table → ℤ → ℕ → Result JulianDate Refusal
 write_julian t x k =
-    refusing Refused
+    refusing Err
     (scale_tests t k ++ (in_range t (scale_of k) x, RANGE) ∷ [])
-    (Dated (pair_of (offsets_of t (scale_of k)) (stamp_at t (scale_of k) x).reading))
+    (Ok (pair_of (offsets_of t (scale_of k)) (stamp_at t (scale_of k) x).reading))
 
 -- an answer in the scope's numbers: that of the refusal, 0 on success, and the pair, both zero on a refusal
-abbrev pub julian_results : JulianAnswer → ℕ × JulianDate
-julian_results (Dated p) = (0, p)
-julian_results (Refused why) = (number why, record { midnight = fin false 0 (pos 0); fraction = fin false 0 (pos 0) })
+abbrev pub julian_results : Result JulianDate Refusal → ℕ × JulianDate
+julian_results (Ok p) = (0, p)
+julian_results (Err why) = (number why, record { midnight = fin false 0 (pos 0); fraction = fin false 0 (pos 0) })
 
 -- ---- read
 
@@ -70,11 +66,11 @@ micro_read o p = cond (same_day o p) (nearest_in o p) 0
 abbrev pub read_tests : Offsets → JulianDate → List (Bool × Refusal)
 read_tests o p = pair_tests p ++ (nat_le (day_read o p) last_day, RANGE) ∷ []
 
-abbrev pub read_in : Table → Scale → JulianDate → InstantAnswer
+abbrev pub read_in : Table → Scale → JulianDate → Result ℤ Refusal
 read_in t s p =
     let o = offsets_of t s in
-    refusing NoInstant (read_tests o p) (At (instant_after s (day_start o (day_read o p)) (micro_read o p)))
+    refusing Err (read_tests o p) (Ok (instant_after s (day_start o (day_read o p)) (micro_read o p)))
 
 -- `read_julian`, without its mark
-unfoldable pub read_julian : Table → ℕ → JulianDate → InstantAnswer
-read_julian t k p = refusing NoInstant (scale_tests t k) (read_in t (scale_of k) p)
+unfoldable pub read_julian : Table → ℕ → JulianDate → Result ℤ Refusal
+read_julian t k p = refusing Err (scale_tests t k) (read_in t (scale_of k) p)

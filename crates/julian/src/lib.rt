@@ -2,34 +2,20 @@
 // Between a pair and an instant stand a day, counted from year 0, and a microsecond of it: the fraction is of that day's own length.
 #![tactic(auto)]
 
-ghost use Rattle.std.specs.Prelude.{◌≡◌, ◌*◌, false, T};
-ghost use Rattle.leap.specs.Leap.{tabled, vouched_to};
+ghost use Rattle.std.specs.Prelude.{◌≡◌, ◌*◌, T};
 ghost use Rattle.julian.specs.Midnight.{midnight_in_years, day_number};
 ghost use Rattle.julian.specs.Dates.{pair_at};
-ghost use Rattle.julian.specs.Marks.{marked_pair, write_julian_marked, read_in_marked, read_julian_marked};
+ghost use Rattle.julian.specs.Marks.{write_julian_marked, read_in_marked, read_julian_marked};
 
-use answer::Refusal;
+use answer::{Marked, Refusal};
 use leap::Table;
-use stamp::{DayTime, MarkedInstant, Scale, ScaleAnswer, ShownAnswer};
+use stamp::{DayTime, Scale};
 
 // The midnight ends in .5, and the fraction is at least 0 and below 1.
-#[derive(Clone, Copy)]
+#[derive(Clone, Copy, Debug, PartialEq)]
 pub struct JulianDate {
     pub midnight: f64,
     pub fraction: f64,
-}
-
-#[derive(Clone, Copy)]
-pub enum JulianAnswer {
-    Dated(JulianDate),
-    Refused(Refusal),
-}
-
-// Beside the answer stands its mark, as beside those of `stamp`.
-#[derive(Clone, Copy)]
-pub struct MarkedPair {
-    pub answer: JulianAnswer,
-    pub beyond: bool,
 }
 
 // The whole part of the midnight of 1 January of year 0.
@@ -46,27 +32,11 @@ fn pair_of(d: DayTime) -> JulianDate
     JulianDate { midnight, fraction }
 }
 
-// A refusal has no mark.
-fn refused_pair(why: Refusal) -> MarkedPair
-    ensures { result ≡ marked_pair (JulianAnswer.Refused why) false }
+pub fn write_julian(t: &Table, instant: i64, scale: u32) -> Marked<JulianDate>
+    ensures { result ≡ write_julian_marked t.now instant scale }
 {
-    let answer = JulianAnswer::Refused(why);
-    let beyond = false;
-    MarkedPair { answer, beyond }
-}
-
-pub fn write_julian(t: Table, instant: i64, scale: u32) -> MarkedPair
-    ensures { result ≡ write_julian_marked t instant scale }
-{
-    let marked = stamp::shown_of(t.count, &t.months, &t.offsets, t.vouched, instant, scale);
-    let shown = marked.answer;
-    match shown {
-        ShownAnswer::Shown(d) => MarkedPair {
-            answer: JulianAnswer::Dated(pair_of(d)),
-            beyond: marked.beyond,
-        },
-        ShownAnswer::Refused(why) => refused_pair(why),
-    }
+    let shown = stamp::shown_of(t, instant, scale);
+    Marked::new(shown.answer.map(pair_of), shown.beyond)
 }
 
 // ---- a pair to an instant
@@ -75,10 +45,7 @@ pub fn write_julian(t: Table, instant: i64, scale: u32) -> MarkedPair
 fn in_years(x: f64) -> bool
     ensures { result ≡ midnight_in_years x }
 {
-    if 2441317.5 <= x {
-        return x <= 5373483.5;
-    }
-    false
+    2441317.5 <= x && x <= 5373483.5
 }
 
 // Counted from 1 January of year 0.
@@ -90,43 +57,33 @@ fn day_number(x: f64) -> u32
 }
 
 // The instant of a pair, or the first thing that is wrong with it: scale and table were asked for.
-fn read_in<'a>(
-    scale: Scale,
-    count: usize,
-    months: &'a [u32; 64],
-    offsets: &'a [i32; 64],
-    vouched: u32,
-    date: JulianDate,
-) -> MarkedInstant
-    ensures { result ≡ read_in_marked (vouched_to vouched (tabled count months.now offsets.now)) scale date }
+fn read_in(scale: Scale, t: &Table, date: JulianDate) -> Marked<i64>
+    ensures { result ≡ read_in_marked t.now scale date }
 {
-    if !fraction::is_half(date.midnight) {
-        return stamp::refused_instant(Refusal::Number);
-    }
-    if !fraction::is_fraction(date.fraction) {
-        return stamp::refused_instant(Refusal::Number);
+    if !fraction::is_half(date.midnight) || !fraction::is_fraction(date.fraction) {
+        return Marked::refused(Refusal::Number);
     }
     if !in_years(date.midnight) {
-        return stamp::refused_instant(Refusal::Range);
+        return Marked::refused(Refusal::Range);
     }
-    let days = stamp::day_on(scale, count, months, offsets, day_number(date.midnight));
+    let days = scale.day_on(t, day_number(date.midnight));
     let seconds = days.seconds as u64;
     // A second has 15625 * 2^6 microseconds.
     let micro = fraction::nearest_of(date.fraction, 15625 * seconds, 6);
     if micro < 1000000 * seconds {
-        return stamp::instant_on(scale, vouched, days.this, micro);
+        scale.instant_on(t.vouched, days.this, micro)
+    } else {
+        // As many as the day has are the next midnight.
+        scale.instant_on(t.vouched, days.next, 0)
     }
-    // As many as the day has are the next midnight.
-    stamp::instant_on(scale, vouched, days.next, 0)
 }
 
-pub fn read_julian(t: Table, scale: u32, date: JulianDate) -> MarkedInstant
-    ensures { result ≡ read_julian_marked t scale date }
+pub fn read_julian(t: &Table, scale: u32, date: JulianDate) -> Marked<i64>
+    ensures { result ≡ read_julian_marked t.now scale date }
 {
-    let count = t.count;
-    let vouched = t.vouched;
-    match stamp::asked(count, &t.months, &t.offsets, vouched, scale) {
-        ScaleAnswer::On(s) => read_in(s, count, &t.months, &t.offsets, vouched, date),
-        ScaleAnswer::Refused(why) => stamp::refused_instant(why),
+    // No `?`: the answer is a Marked.
+    match stamp::asked(t, scale) {
+        Ok(s) => read_in(s, t, date),
+        Err(why) => Marked::refused(why),
     }
 }

@@ -13,6 +13,7 @@ use lib.Seq.{drop-cons, drop-length, drop-drop}
 use borrow.Author.Tests.{lt-ltb}
 use Rattle.laws.proofs.Cases.{pick, by_order}
 use Rattle.answer.specs.declared.Refusal.TheVariants.{Kernel as KERNEL}
+use Rattle.leap.specs.declared.Table.{Table}
 use Rattle.leap.specs.Leap.{tabled}
 use Rattle.leap.specs.Entries.{table_of}
 use Rattle.leap.specs.Readers.{refused_at}
@@ -120,48 +121,52 @@ only_blanks {s} {i} {j} l e =
 
 -- ---- the loop
 
--- up to place i all is read: the reader stands at m, and the arrays hold the pairs, of which over 64 are only counted
-pub record Going (s : List ℕ) (m : Mode) (count : ℕ) (months : List ℕ) (offsets : List ℤ) (i : ℕ) : Type 0 where
+-- up to place i all is read: the reader stands at m, and the table holds the pairs, of which over 64 are only counted
+pub record Going (s : List ℕ) (m : Mode) (t : Table) (i : ℕ) : Type 0 where
   pub pairs : Pairs
   pub goes : run m pairs i (drop i s) ≡ scan s
   pub inside : i ≤ length s
-  pub few : count ≤ 64 → (length pairs ≡ count) × Holds months offsets pairs
-  pub many : 64 < count → 64 < length pairs
+  pub no_month : t.vouched ≡ 0
+  pub few : t.count ≤ 64 → (length pairs ≡ t.count) × Holds t.months t.offsets pairs
+  pub many : 64 < t.count → 64 < length pairs
 
-module _ {s : List ℕ} {m : Mode} {count : ℕ} {months : List ℕ} {offsets : List ℤ} {i : ℕ} (h : Going s m count months offsets i) where
-  have_is : ltb 0 count ≡ ltb 0 (length h.pairs)
-  have_is = by_order 64 count
-      (λ l. let n = h.many l in lt-ltb 0 count (omega arith) ∙ sym (lt-ltb 0 (length h.pairs) (omega arith)))
+module _ {s : List ℕ} {m : Mode} {t : Table} {i : ℕ} (h : Going s m t i) where
+  have_is : ltb 0 t.count ≡ ltb 0 (length h.pairs)
+  have_is = by_order 64 t.count
+      (λ l. let n = h.many l in lt-ltb 0 t.count (omega arith) ∙ sym (lt-ltb 0 (length h.pairs) (omega arith)))
       (λ l. ap (ltb 0) (sym (h.few l).0))
 
-  same_end : (whole : Bool) → ended whole (length s) m (tabled count months offsets) ≡ ended whole (length s) m (table_of h.pairs)
-  unfolding table_of
-  same_end whole = by_order 64 count
-      (λ l. rw (have_is, too_many (tabled count months offsets) l, too_many (table_of h.pairs) (h.many l)))
-      (λ l. ap (ended whole (length s) m) (holds_table (h.few l).1 (h.few l).0))
+  same_table : t ≡ tabled t.count t.months t.offsets
+  same_table = let v = h.no_month in λ j. record { count = t.count; months = t.months; offsets = t.offsets; vouched = v j }
 
-  pub on_end : (whole : Bool) → length s ≤ i → ended whole (length s) m (tabled count months offsets) ≡ verdict whole s
+  same_end : (whole : Bool) → ended whole (length s) m t ≡ ended whole (length s) m (table_of h.pairs)
+  unfolding table_of
+  same_end whole = by_order 64 t.count
+      (λ l. rw (have_is, too_many t l, too_many (table_of h.pairs) (h.many l)))
+      (λ l. ap (ended whole (length s) m) (same_table ∙ holds_table (h.few l).1 (h.few l).0))
+
+  pub on_end : (whole : Bool) → length s ≤ i → ended whole (length s) m t ≡ verdict whole s
   unfolding run
   on_end whole l =
       let e : i ≡ length s = omega (arith, h.inside) in
       let g : standing m h.pairs ≡ scan s = rw (e, drop-length) at h.goes in
       same_end whole ∙ ap (λ r. ended whole (length s) r.mode (table_of r.pairs)) g
 
-  module _ (l : i < length s) {m' n : Mode} (e : m' ≡ step (ltb 0 count) i m (get_or s i 0)) (q : m' ≡ n) where
+  module _ (l : i < length s) {m' n : Mode} (e : m' ≡ step (ltb 0 t.count) i m (get_or s i 0)) (q : m' ≡ n) where
     next : run n (noted n h.pairs) (i + 1) (drop (i + 1) s) ≡ scan s
     unfolding run
     next = rw (← q, e, have_is) (rw (drop-cons s i 0 l, ← add-one i) at h.goes)
 
     -- no pair is noted
-    pub on_quiet : noted n h.pairs ≡ h.pairs → Going s m' count months offsets (i + 1)
-    on_quiet f = record { pairs = h.pairs; goes = rw q (rw f at next); inside = omega arith; few = h.few; many = h.many }
+    pub on_quiet : noted n h.pairs ≡ h.pairs → Going s m' t (i + 1)
+    on_quiet f = record { pairs = h.pairs; goes = rw q (rw f at next); inside = omega arith; no_month = h.no_month; few = h.few; many = h.many }
 
-  module _ (l : i < length s) {m' : Mode} (e : m' ≡ step (ltb 0 count) i m (get_or s i 0)) where
-    pub on_rest : {r : Resting} {j : ℕ} → m' ≡ Rest r → ReadsOn s (Rest r) (i + 1) j → Going s (Rest r) count months offsets j
-    on_rest q f = record { pairs = h.pairs; goes = f.same h.pairs ∙ next l e q; inside = f.inside; few = h.few; many = h.many }
+  module _ (l : i < length s) {m' : Mode} (e : m' ≡ step (ltb 0 t.count) i m (get_or s i 0)) where
+    pub on_rest : {r : Resting} {j : ℕ} → m' ≡ Rest r → ReadsOn s (Rest r) (i + 1) j → Going s (Rest r) t j
+    on_rest q f = record { pairs = h.pairs; goes = f.same h.pairs ∙ next l e q; inside = f.inside; no_month = h.no_month; few = h.few; many = h.many }
 
-    pub on_ours : {o : Pairing} {j : ℕ} → m' ≡ Ours o → OnlyBlanks s (i + 1) j → Going s m' count months offsets j
-    on_ours {o} q b = let f = ours_blanks b o in record { pairs = h.pairs; goes = rw q (f.same h.pairs ∙ next l e q); inside = f.inside; few = h.few; many = h.many }
+    pub on_ours : {o : Pairing} {j : ℕ} → m' ≡ Ours o → OnlyBlanks s (i + 1) j → Going s m' t j
+    on_ours {o} q b = let f = ours_blanks b o in record { pairs = h.pairs; goes = rw q (f.same h.pairs ∙ next l e q); inside = f.inside; no_month = h.no_month; few = h.few; many = h.many }
 
     module _ {start n month : ℕ} {minus : Bool} (q : m' ≡ Done start minus n month) where
       abbrev more : Pairs
@@ -170,24 +175,27 @@ module _ {s : List ℕ} {m : Mode} {count : ℕ} {months : List ℕ} {offsets : 
       more_long : length more ≡ length h.pairs + 1
       more_long = length-append h.pairs ((month, signed minus n) ∷ [])
 
-      pub on_pair : {offset : ℤ} → offset ≡ signed minus n → count < 64 → Going s (Done start minus n month) (count + 1) (set months count month) (set offsets count offset) (i + 1)
+      pub on_pair : {offset : ℤ} → offset ≡ signed minus n → t.count < 64
+          → Going s (Done start minus n month) (record { count = t.count + 1; months = set t.months t.count month; offsets = set t.offsets t.count offset; vouched = t.vouched }) (i + 1)
       on_pair o room =
           let f = h.few (omega arith) in
           record {
             pairs = more;
             goes = next l e q;
             inside = omega arith;
+            no_month = h.no_month;
             few = λ k. (omega (arith, more_long, f.0), rw o (holds_more f.1 (month, signed minus n) f.0 room));
             many = λ k. absurd (omega arith);
           }
 
-      pub on_full : 64 ≤ count → Going s (Done start minus n month) 65 months offsets (i + 1)
+      pub on_full : 64 ≤ t.count → Going s (Done start minus n month) (record { count = 65; months = t.months; offsets = t.offsets; vouched = t.vouched }) (i + 1)
       on_full full = record {
         pairs = more;
         goes = next l e q;
         inside = omega arith;
+        no_month = h.no_month;
         few = λ k. absurd (omega arith);
-        many = λ k. by_order 64 count (λ g. omega (arith, more_long, h.many g)) (λ g. omega (arith, more_long, (h.few g).0));
+        many = λ k. by_order 64 t.count (λ g. omega (arith, more_long, h.many g)) (λ g. omega (arith, more_long, (h.few g).0));
       }
 
     pub on_dead : {p : ℕ} (whole : Bool) → m' ≡ Dead p → refused_at KERNEL p ≡ verdict whole s

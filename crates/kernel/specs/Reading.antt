@@ -1,10 +1,10 @@
 -- What reading a kernel answers, which the contracts of its functions cite. Nothing here need be believed: specs/Promise.antt says what `read_kernel` answers,
 -- by the grammar alone.
 -- Assumes nothing.
-use Rattle.std.specs.Prelude.{ℕ, ◌-◌, ◌≤◌, ◌≡◌, Bool, true, false, cond, ◌&&◌, List, ◌++◌, ltb, leb, length, take, drop, replicate}
+use Rattle.std.specs.Prelude.{ℕ, ◌-◌, ◌≤◌, ◌≡◌, Bool, true, false, cond, ◌&&◌, List, ◌++◌, ltb, leb, length, take, drop, replicate, Result}
 use Rattle.answer.specs.declared.Refusal.TheVariants.{Kernel as KERNEL}
 use Rattle.leap.specs.declared.Table.{Table}
-use Rattle.leap.specs.declared.TableRead.{TableRead}
+use Rattle.answer.specs.declared.Fault.{Fault}
 use Rattle.leap.specs.Entries.{table_of}
 use Rattle.leap.specs.Readers.{refused_at, judged}
 use Rattle.automaton.specs.declared.Mode.{Mode}
@@ -24,13 +24,13 @@ place_of n (Done start minus k month) = n
 place_of n (Dead place) = place
 
 -- n bytes end here, with the pairs of this table; `whole`: they are the file
-abbrev pub ended : Bool → ℕ → Mode → Table → TableRead
+abbrev pub ended : Bool → ℕ → Mode → Table → Result Table Fault
 ended whole n m t = cond (may_end m && (whole && ltb 0 t.count)) (judged t) (refused_at KERNEL (place_of n m))
 
-abbrev pub verdict : Bool → List ℕ → TableRead
+abbrev pub verdict : Bool → List ℕ → Result Table Fault
 verdict whole s = ended whole (length s) (scan s).mode (table_of (scan s).pairs)
 
-unfoldable pub read_kernel : List ℕ → TableRead
+unfoldable pub read_kernel : List ℕ → Result Table Fault
 read_kernel s = cond (leb (length s) limit) (verdict true s) (verdict false (take limit s))
 
 -- from place i to place j there is nothing but blanks

@@ -1,9 +1,8 @@
 -- The kernel of a table, and what writing it answers.
 -- Assumes nothing.
-use Rattle.std.specs.Prelude.{ℕ, ◌+◌, ◌/◌, ◌%◌, Bool, List, [], ◌∷◌, ◌++◌, replicate}
+use Rattle.std.specs.Prelude.{ℕ, ◌+◌, ◌/◌, ◌%◌, Bool, List, [], ◌∷◌, ◌++◌, replicate, Result}
 use Rattle.answer.specs.declared.Refusal.{Refusal}
 use Rattle.answer.specs.declared.Refusal.TheVariants.{Table as TABLE}
-use Rattle.answer.specs.declared.Written.{Written}
 use Rattle.answer.specs.Buffers.{written, buffer_after}
 use Rattle.leap.specs.declared.Table.{Table}
 use Rattle.leap.specs.Leap.{accepted}
@@ -49,7 +48,7 @@ kernel_of t = front ++ (pairs_text (entries t) ++ back)
 abbrev pub kernel_tests : Table → List (Bool × Refusal)
 kernel_tests t = (accepted t, TABLE) ∷ []
 
-abbrev pub write_kernel : Table → List ℕ → Written
+abbrev pub write_kernel : Table → List ℕ → Result ℕ Refusal
 write_kernel t buffer = written (kernel_tests t) (kernel_of t) buffer
 
 abbrev pub write_kernel_after : Table → List ℕ → List ℕ

@@ -11,56 +11,59 @@ ghost use Rattle.kinds.specs.Parts.{matched, grown, years_begin, grown_year, goe
 pub fn is_white(b: u8) -> bool
     ensures { result ≡ is_white b }
 {
-    (b == b' ') | ((b == b'\t') | (b == b'\r'))
+    matches!(b, b' ' | b'\t' | b'\r')
 }
 
 pub fn is_gap(b: u8) -> bool
     ensures { result ≡ is_gap b }
 {
-    is_white(b) | (b == b'\n')
+    is_white(b) || b == b'\n'
 }
 
 pub fn is_between(b: u8) -> bool
     ensures { result ≡ is_between b }
 {
-    is_gap(b) | (b == b',')
+    is_gap(b) || b == b','
 }
 
 pub fn is_run(b: u8) -> bool
     ensures { result ≡ is_run b }
 {
-    ((33 <= b) & (b <= 126))
-        & !((b == b'(')
-            | ((b == b')') | ((b == b',') | ((b == b'=') | ((b == b'\'') | (b == b'\\'))))))
+    matches!(b, b'!'..=b'~') && !matches!(b, b'(' | b')' | b',' | b'=' | b'\'' | b'\\')
 }
 
 pub fn is_name(b: u8) -> bool
     ensures { result ≡ is_name b }
 {
-    is_run(b) & !((b == b'+') | (b == b'@'))
+    is_run(b) && !matches!(b, b'+' | b'@')
 }
 
 // ---- words, numbers, months
 
+// More bytes than a word of a kernel has: it stands for any other word.
+pub const OTHER: usize = 16;
+
+// Nothing calls it any more, since an `if` says it. It stays because `SettledKinds` of `promises` settles it by name.
 pub fn pick(test: bool, yes: u8, other: u8) -> u8
     ensures { result ≡ cond test yes other }
 {
     if test { yes } else { other }
 }
 
-// k bytes of a word are read, and b follows: how many are read now; 16, more than a word has, where b is not the next.
+// k bytes of a word are read, and b follows: how many are read now; OTHER where b is not the next.
+// No Option: `matched` of specs/ says 16, and so do the modes of the automaton and the theorems on both.
+#[tactic(auto, unfolding(crate::specs::Parts::matched))]
 fn matched_in(word: &[u8], k: usize, b: u8) -> usize
     ensures { result ≡ matched word.now k b }
 {
-    if k < word.len() {
-        if word[k] == b {
-            return k + 1;
-        }
+    if word.get(k) == Some(&b) {
+        k + 1
+    } else {
+        OTHER
     }
-    16
 }
 
-// Of ours, of \begindata and of \begintext.
+// Of ours, of \begindata and of \begintext: one call each, since `SettledKinds` of `promises` settles the three by name.
 pub fn ours_next(k: usize, b: u8) -> usize
     ensures { result ≡ matched ours k b }
 {
@@ -83,15 +86,16 @@ pub fn grow(n: u16, b: u8) -> u16
     ensures { result ≡ grown n b }
 {
     if n < 1000 {
-        return n * 10 + digits::digit_value(b) as u16;
+        n * 10 + u16::from(digits::digit_value(b))
+    } else {
+        n
     }
-    n
 }
 
 pub fn grow_year(year: u32, b: u8) -> u32
     ensures { result ≡ grown_year year b }
 {
-    year % 1000 * 10 + digits::digit_value(b) as u32
+    year % 1000 * 10 + u32::from(digits::digit_value(b))
 }
 
 pub fn years_begin(k: usize, year: u32) -> bool
@@ -108,48 +112,36 @@ pub fn years_begin(k: usize, year: u32) -> bool
 pub fn capital(b: u8) -> u8
     ensures { result ≡ upper b }
 {
-    let low = (97 <= b) & (b <= 122);
-    if low {
-        return b - 32;
-    }
-    b
+    b.to_ascii_uppercase()
 }
 
 fn goes_on(from: u8, k: usize, c: u8, m: u8) -> bool
     ensures { result ≡ goes_on from k c m }
 {
-    let name = digits::month_name(m as u32);
-    let begun = digits::month_name(from as u32);
-    let first = name[0] == pick(k == 0, c, begun[0]);
-    let second = name[1] == pick(k == 1, c, begun[1]);
-    first & ((k == 0) | (second & ((k == 1) | (name[2] == c))))
+    let name = digits::month_name(u32::from(m));
+    let begun = digits::month_name(u32::from(from));
+    match k {
+        0 => name[0] == c,
+        1 => name[0] == begun[0] && name[1] == c,
+        _ => name[0] == begun[0] && name[1] == begun[1] && name[2] == c,
+    }
 }
 
-// The last month whose name goes on from the first k letters of `from` with c; 0 for none.
+// The last month whose name goes on from the first k letters of `from` with c; 0 for none, as `month_on` of specs/ says.
+#[tactic(auto, using(crate::proofs::Months::last_month), unfolding(crate::specs::Parts::month_on))]
 pub fn month_on(from: u8, k: usize, c: u8) -> u8
     ensures { result ≡ month_on from k c 12 }
 {
-    let mut m = 12;
-    while 0 < m {
+    for m in (1..=12).rev() {
         if goes_on(from, k, c, m) {
             return m;
         }
-        m -= 1;
     }
     0
-}
-
-fn less(a: u32, b: u32) -> u32
-    ensures { (result ≡ a - b) × (result ≤ a) }
-{
-    if a < b {
-        return 0;
-    }
-    a - b
 }
 
 pub fn month_number(year: u32, m: u8) -> u32
     ensures { result ≡ month_number year m }
 {
-    less(year % 10000, 1972) * 12 + less(m as u32, 1)
+    (year % 10000).saturating_sub(1972) * 12 + u32::from(m).saturating_sub(1)
 }

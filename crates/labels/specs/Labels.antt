@@ -1,6 +1,7 @@
 -- Labels: which exist, and their order.
 -- Assumes nothing.
-use Rattle.std.specs.Prelude.{Bool, cond, ◌&&◌, List, [], ◌∷◌, ◌++◌, ℕ, ◌+◌, ◌*◌, ◌-◌, eqb, leb, ltb, ℤ, pos}
+use Rattle.labels.specs.declared.Month.{Month}
+use Rattle.std.specs.Prelude.{Bool, cond, ◌&&◌, List, [], ◌∷◌, ◌++◌, ℕ, ◌+◌, ◌*◌, ◌-◌, eqb, leb, ltb, ℤ, pos, Result, Ok, Err}
 use Rattle.std.specs.Int.Signed.{lt_z}
 use Rattle.laws.specs.Order.{Less}
 use Rattle.answer.specs.declared.Refusal.{Refusal}
@@ -9,8 +10,6 @@ use Rattle.answer.specs.Refusals.{all_pass, refusing}
 use Rattle.months.specs.Months.{month_length}
 use Rattle.labels.specs.declared.Label.{Label}
 use Rattle.labels.specs.declared.Reading.{Reading}
-use Rattle.labels.specs.declared.Judged.{Judged}
-use Rattle.labels.specs.declared.Judged.TheVariants.{Real, Refused}
 
 abbrev pub label : ℕ → ℕ → ℕ → ℕ → ℕ → ℕ → Label
 label y mo d h mi s = record { year = y; month = mo; day = d; hour = h; minute = mi; second = s }
@@ -63,9 +62,9 @@ field_tests most r =
     (real_year r.label, YEAR) ∷ (real_month r.label, DATE) ∷ (real_day r.label, DATE) ∷ (real_clock most r, CLOCK) ∷ []
 
 -- `judge`
-unfoldable pub judged : ℕ → Reading → Judged
+unfoldable pub judged : ℕ → Reading → Result Month Refusal
 judged most r =
-    refusing Refused (field_tests most r) (Real (record { number = month_of r.label; days = month_length (month_of r.label) }))
+    refusing Err (field_tests most r) (Ok (record { number = month_of r.label; days = month_length (month_of r.label) }))
 
 -- the seconds of the last minute of a month: one more where the next month's offset is higher, one less where it is lower
 unfoldable pub last_minute : ℤ → ℤ → ℕ

@@ -10,7 +10,7 @@ ghost use Rattle.labels.specs.Back.{minute_of, day_of, in_day, label_of};
 use answer::Refusal;
 
 // A calendar label of whole seconds.
-#[derive(Clone, Copy)]
+#[derive(Clone, Copy, Debug, PartialEq, Eq)]
 pub struct Label {
     pub year: u32,
     pub month: u32,
@@ -20,28 +20,21 @@ pub struct Label {
     pub second: u32,
 }
 
-#[derive(Clone, Copy)]
+#[derive(Clone, Copy, Debug, PartialEq, Eq)]
 pub struct Reading {
     pub label: Label,
     pub micro: u32,
 }
 
 // A month, counted from January of year 0, and how many days it has.
-#[derive(Clone, Copy)]
+#[derive(Clone, Copy, Debug, PartialEq, Eq)]
 pub struct Month {
     pub number: u32,
     pub days: u32,
 }
 
-// The month of a reading, or the first thing that is wrong with year, month, day or clock.
-#[derive(Clone, Copy)]
-pub enum Judged {
-    Real(Month),
-    Refused(Refusal),
-}
-
 // A second of a month, counted from its beginning; the month with the days before it and its own.
-#[derive(Clone, Copy)]
+#[derive(Clone, Copy, Debug, PartialEq, Eq)]
 pub struct Place {
     pub month: u32,
     pub start: u64,
@@ -49,15 +42,13 @@ pub struct Place {
     pub second: u32,
 }
 
+// No methods: `SettledParts` of promises states each public function by its arguments in this order, two offsets one by one.
+
 // The label's month, counted from January of year 0; month 0, which no year has, counts as its first.
 pub fn month_of(l: Label) -> u64
     ensures { result ≡ month_of l }
 {
-    let first = 12 * l.year as u64;
-    if l.month == 0 {
-        return first;
-    }
-    first + (l.month - 1) as u64
+    12 * l.year as u64 + l.month.saturating_sub(1) as u64
 }
 
 // ---- which labels exist
@@ -66,30 +57,21 @@ pub fn month_of(l: Label) -> u64
 fn real_year(l: Label) -> bool
     ensures { result ≡ real_year l }
 {
-    if l.year < 1972 {
-        return false;
-    }
-    l.year <= 9999
+    (1972..=9999).contains(&l.year)
 }
 
 #[tactic(auto, unfolding(crate::specs::Labels::real_month))]
 fn real_month(l: Label) -> bool
     ensures { result ≡ real_month l }
 {
-    if l.month < 1 {
-        return false;
-    }
-    l.month <= 12
+    (1..=12).contains(&l.month)
 }
 
 // A month of so many days has the label's day.
 fn day_in(days: u32, l: Label) -> bool
     ensures { result ≡ day_in days l }
 {
-    if l.day < 1 {
-        return false;
-    }
-    l.day <= days
+    (1..=days).contains(&l.day)
 }
 
 #[tactic(auto, unfolding(crate::specs::Labels::real_clock))]
@@ -97,85 +79,74 @@ fn real_clock(most: u32, r: Reading) -> bool
     ensures { result ≡ real_clock most r }
 {
     let l = r.label;
-    if 23 < l.hour {
-        return false;
-    }
-    if 59 < l.minute {
-        return false;
-    }
-    if most < l.second {
-        return false;
-    }
-    r.micro <= 999999
+    l.hour <= 23 && l.minute <= 59 && l.second <= most && r.micro <= 999999
 }
 
 // All that is judged without an offset; `most` is the highest second that the scale may have.
-pub fn judge(most: u32, r: Reading) -> Judged
+#[tactic(auto, using(crate::proofs::Facts::year_to, crate::proofs::Facts::month_to), unfolding(crate::specs::Labels::judged, crate::specs::Labels::real_day))]
+pub fn judge(most: u32, r: Reading) -> Result<Month, Refusal>
     ensures { result ≡ judged most r }
 {
     let l = r.label;
     if !real_year(l) {
-        return Judged::Refused(Refusal::Year);
+        return Err(Refusal::Year);
     }
     if !real_month(l) {
-        return Judged::Refused(Refusal::Date);
+        return Err(Refusal::Date);
     }
-    let year = l.year;
-    let month = l.month;
-    let number = 12 * year + (month - 1);
+    let number = 12 * l.year + (l.month - 1);
     let days = calendar::month_length(number);
     if !day_in(days, l) {
-        return Judged::Refused(Refusal::Date);
+        return Err(Refusal::Date);
     }
     if !real_clock(most, r) {
-        return Judged::Refused(Refusal::Clock);
+        return Err(Refusal::Clock);
     }
-    Judged::Real(Month { number, days })
+    Ok(Month { number, days })
 }
 
 // The label stands in the last minute of its month, which has so many days.
 pub fn in_last_minute(days: u32, l: Label) -> bool
     ensures { result ≡ in_last_minute days l }
 {
-    if l.day != days {
-        return false;
-    }
-    if l.hour != 23 {
-        return false;
-    }
-    l.minute == 59
+    l.day == days && l.hour == 23 && l.minute == 59
 }
 
+#[tactic(auto, using(laws::proofs::Machine::less_is), unfolding(crate::specs::Labels::last_minute))]
 fn last_minute(here: i32, next: i32) -> u32
     ensures { result ≡ last_minute here next }
 {
     if here < next {
-        return 61;
+        61
+    } else if next < here {
+        59
+    } else {
+        60
     }
-    if next < here {
-        return 59;
-    }
-    60
 }
 
 // The seconds of the label's minute, by its month's offset and the next month's.
+#[tactic(auto, using(laws::proofs::Machine::read2), unfolding(crate::specs::Labels::minute_in))]
 pub fn minute_length(days: u32, here: i32, next: i32, l: Label) -> u32
     ensures { result ≡ minute_in days here next l }
 {
     if in_last_minute(days, l) {
-        return last_minute(here, next);
+        last_minute(here, next)
+    } else {
+        60
     }
-    60
 }
 
 // The seconds of a day, which may be the last of its month.
+#[tactic(auto, using(laws::proofs::Machine::read2, crate::proofs::Turn::last_range), unfolding(crate::specs::Lengths::seconds_in))]
 pub fn day_seconds(last: bool, here: i32, next: i32) -> u32
     ensures { result ≡ seconds_in last here next }
 {
     if last {
-        return 86340 + last_minute(here, next);
+        86340 + last_minute(here, next)
+    } else {
+        86400
     }
-    86400
 }
 
 // ---- the label of a second
@@ -183,11 +154,7 @@ pub fn day_seconds(last: bool, here: i32, next: i32) -> u32
 fn minute_of(rest: u32) -> u32
     ensures { result ≡ minute_of rest }
 {
-    let minute = rest / 60;
-    if 1439 < minute {
-        return 1439;
-    }
-    minute
+    (rest / 60).min(1439)
 }
 
 #[tactic(auto, unfolding(crate::specs::Back::in_day))]
@@ -210,14 +177,7 @@ fn in_day(m: u32, d: u32, rest: u32) -> Label
 pub fn day_of(days: u32, rest: u32) -> u32
     ensures { result ≡ day_of days rest }
 {
-    if days < 1 {
-        return 0;
-    }
-    let day = rest / 86400;
-    if days - 1 < day {
-        return days - 1;
-    }
-    day
+    (rest / 86400).min(days.saturating_sub(1))
 }
 
 // The month's last minute takes what its days leave over.

@@ -15,7 +15,7 @@ use Rattle.laws.proofs.Machine.{eq_z_true, eq_z_eq}
 use Rattle.leap.specs.declared.Table.{Table}
 use Rattle.leap.specs.Leap.{last_entry_month, entry_month, one_apart, later_right, place_right, vouched_right, accepted}
 use Rattle.leap.specs.Entries.{Entry, first_entry, no_entry, entry}
-use Rattle.leap.proofs.Places.{later_is, unused_is}
+use Rattle.leap.proofs.Places.{later_step, unused_is}
 
 -- entry f may come next after entry e
 pub record Later (e f : Entry) : Type 0 where
@@ -73,7 +73,7 @@ module _ (t : Table) where
   pub accepted_to : accepted t ≡ true → Accepted t
   unfolding accepted place_right
   accepted_to e =
-      record { some_entry = counted.0; few = counted.1; first = zero_to _ _ _ (right 0 (omega arith)); later = λ k h. later_to _ _ _ _ (later_is t k h ∙ right (k + 1) (omega (arith, counted))); unused = λ k h l. zero_to _ _ _ (unused_is t k (omega (arith, counted)) h ∙ right k l); month_right = places.1 }
+      record { some_entry = counted.0; few = counted.1; first = zero_to _ _ _ (right 0 (omega arith)); later = λ k h. later_to _ _ _ _ (later_step t k h ∙ right (k + 1) (omega (arith, counted))); unused = λ k h l. zero_to _ _ _ (unused_is t k (omega (arith, counted)) h ∙ right k l); month_right = places.1 }
     where
       counted : (1 ≤ t.count) × (t.count ≤ 64)
       counted = count_to e
@@ -91,5 +91,5 @@ module _ (t : Table) where
       right : (k : ℕ) → k < 64 → place_right t k ≡ true
       right zero l = zero_from a.first
       right (suc k) l =
-          by_order (suc k) t.count (λ h. subst (λ (j : ℕ). place_right t j ≡ true) (add-one k) (let m : k + 1 < t.count = omega arith in sym (later_is t k m) ∙ later_from (a.later k m)))
+          by_order (suc k) t.count (λ h. subst (λ (j : ℕ). place_right t j ≡ true) (add-one k) (let m : k + 1 < t.count = omega arith in sym (later_step t k m) ∙ later_from (a.later k m)))
           (λ h. sym (unused_is t (suc k) (omega arith) h) ∙ zero_from (a.unused (suc k) h l))

@@ -4,9 +4,10 @@ use Prim.Native.Nat.{ℕ}
 use mathlib.Core.Path.{◌≡◌, refl, sym, ap, ◌∙◌}
 use mathlib.Core.Bool.{true, false}
 use mathlib.Core.List.{List, [], ◌++◌, append_assoc}
+use Rattle.std.specs.Prelude.{Result}
 use Rattle.answer.proofs.Orders.{number_some}
 use Rattle.leap.specs.declared.Table.{Table}
-use Rattle.leap.specs.declared.TableRead.{TableRead}
+use Rattle.answer.specs.declared.Fault.{Fault}
 use Rattle.leap.specs.Leap.{vouched_to, accepted}
 use Rattle.leap.specs.Entries.{Entry, table_of}
 use Rattle.leap.specs.Readers.{no_table, judged, table_results}
@@ -26,7 +27,7 @@ was_entered (entered v es) t e = (v, es, refl, ap (λ x. x.2) e)
 was_entered (fault why at) t e = absurd (number_some why (ap (λ x. x.0) e))
 
 -- what a table is judged as, in numbers
-module _ (t : Table) {r : TableRead} (e : r ≡ judged t) where
+module _ (t : Table) {r : Result Table Fault} (e : r ≡ judged t) where
   pub judged_found : accepted t ≡ true → table_results r ≡ (0, 0, t)
   judged_found a = ap table_results e ∙ rw a
 
@@ -34,5 +35,5 @@ module _ (t : Table) {r : TableRead} (e : r ≡ judged t) where
   judged_refused a = ap table_results e ∙ rw a
 
 -- no reader gives two answers of different numbers
-pub two_numbers : {A : Type 0} (r : TableRead) {a b : ℕ × ℕ × Table} → table_results r ≡ a → table_results r ≡ b → (a.0 ≡ b.0 → ⊥) → A
+pub two_numbers : {A : Type 0} (r : Result Table Fault) {a b : ℕ × ℕ × Table} → table_results r ≡ a → table_results r ≡ b → (a.0 ≡ b.0 → ⊥) → A
 two_numbers r p q n = absurd (n (ap (λ x. x.0) (sym p ∙ q)))

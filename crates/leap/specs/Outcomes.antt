@@ -1,8 +1,9 @@
 -- The steps of a reader of tables, entry by entry. Nothing here need be believed: what a reader answers is promised by its crate, without these.
 -- Assumes nothing.
-use Rattle.std.specs.Prelude.{List, ◌++◌, ℕ}
+use Rattle.std.specs.Prelude.{List, ◌++◌, ℕ, Result}
 use Rattle.answer.specs.declared.Refusal.{Refusal}
-use Rattle.leap.specs.declared.TableRead.{TableRead}
+use Rattle.answer.specs.declared.Fault.{Fault}
+use Rattle.leap.specs.declared.Table.{Table}
 use Rattle.leap.specs.Leap.{vouched_to}
 use Rattle.leap.specs.Entries.{Entry, table_of}
 use Rattle.leap.specs.Readers.{found, refused_at}
@@ -17,6 +18,6 @@ abbrev pub joined : List Entry → Outcome → Outcome
 joined es (entered v fs) = entered v (es ++ fs)
 joined es (fault why at) = fault why at
 
-abbrev pub table_read : Outcome → TableRead
+abbrev pub table_read : Outcome → Result Table Fault
 table_read (entered v es) = found (vouched_to v (table_of es))
 table_read (fault why at) = refused_at why at

@@ -1,19 +1,18 @@
 // The leap table: which tables are accepted, TAI-UTC by months, and the table of Bulletin C.
-// Inside, the arrays are lent: a struct that holds them is copied at every call that takes it.
 #![tactic(auto)]
 
 mod bulletin;
 
-ghost use Rattle.std.specs.Prelude.{◌≡◌, ◌+◌, ◌≤◌, ◌<◌, leb};
+ghost use Rattle.std.specs.Prelude.{◌≡◌, ◌≤◌, ◌<◌, ◌+◌, leb};
 ghost use Rattle.std.proofs.Math.IntN.{suc_ℤ};
 ghost use Rattle.laws.specs.Tests.{eq_z, all_below};
-ghost use Rattle.leap.specs.Readers.{found, refused_at, judged};
+ghost use Rattle.leap.specs.Readers.{no_table, judged};
 ghost use Rattle.leap.specs.Leap.{tabled, vouched_to, one_apart, first_right, later_right, unused_right, place_right, vouched_right, accepted, epoch, last_begun, offset_at, near_at, top, beyond, bulletin_c};
 
-use answer::Refusal;
+use answer::{Fault, Refusal};
 
 // `count` entries, each a month (January 1972 is 0) and TAI-UTC in seconds from its first day. Unused places are zero.
-// `vouched` is the last month that the table is good for, plus one; 0 where none is given.
+// `vouched` is the last month that the table is good for, plus one; 0 where none is given. C has it so: the fields are 130 words.
 #[derive(Clone, Copy)]
 pub struct Table {
     pub count: usize,
@@ -28,75 +27,121 @@ pub const EPOCH: u32 = 23664;
 // December 9999 in the table's months.
 pub const LAST_ENTRY_MONTH: u32 = 96335;
 
-pub fn tabled<'a>(
-    count: usize,
-    months: &'a [u32; 64],
-    offsets: &'a [i32; 64],
-    vouched: u32,
-) -> Table
-    ensures { result ≡ vouched_to vouched (tabled count months.now offsets.now) }
-{
-    let m = *months;
-    let o = *offsets;
-    Table {
-        count,
-        months: m,
-        offsets: o,
-        vouched,
+// TAI-UTC in a month and in the month after it.
+#[derive(Clone, Copy)]
+pub struct OffsetPair {
+    pub here: i32,
+    pub next: i32,
+}
+
+impl Table {
+    pub fn new(count: usize, months: [u32; 64], offsets: [i32; 64], vouched: u32) -> Table
+        ensures { result ≡ vouched_to vouched (tabled count months offsets) }
+    {
+        Table {
+            count,
+            months,
+            offsets,
+            vouched,
+        }
+    }
+
+    // No entry: what a reader begins with, and what stands in for a table that is refused.
+    pub fn empty() -> Table
+        ensures { result ≡ no_table }
+    {
+        Table::new(0, [0; 64], [0; 64], 0)
+    }
+
+    // ---- the check: one place at a time on plain numbers, and a flag in each loop, so that the loops compile to vectors
+
+    // The first entry, and each later one after the entry before it.
+    fn used_right(&self) -> bool
+        requires { (1 ≤ self.now.count) × (self.now.count ≤ 64) }
+        ensures { result ≡ all_below (place_right self.now) self.now.count }
+    {
+        let mut ok = first_right(self.months[0], self.offsets[0]);
+        for k in 1..self.count {
+            let later = later_right(
+                self.months[k - 1],
+                self.offsets[k - 1],
+                self.months[k],
+                self.offsets[k],
+            );
+            ok = ok & later;
+        }
+        ok
+    }
+
+    // The places in use, and then the unused ones.
+    fn all_right(&self) -> bool
+        requires { (1 ≤ self.now.count) × (self.now.count ≤ 64) }
+        ensures { result ≡ all_below (place_right self.now) 64 }
+    {
+        let mut ok = self.used_right();
+        for k in self.count..64 {
+            ok = ok & unused_right(self.months[k], self.offsets[k]);
+        }
+        ok
+    }
+
+    #[tactic(auto, unfolding(crate::specs::Leap::accepted))]
+    pub fn is_accepted(&self) -> bool
+        ensures { result ≡ accepted self.now }
+    {
+        if !(1..=64).contains(&self.count) {
+            return false;
+        }
+        self.all_right() && vouched_right(self.months[self.count - 1], self.vouched)
+    }
+
+    // ---- TAI-UTC
+
+    // The last place in use.
+    fn top(&self) -> usize
+        ensures { (result ≡ top self.now.count) × (result < 64) }
+    {
+        self.count.min(64).saturating_sub(1)
+    }
+
+    // TAI-UTC in the calendar's month m, counted from January of year 0.
+    pub fn offset_at(&self, m: u32) -> i32
+        ensures { result ≡ offset_at self.now m }
+    {
+        let k = last_begun(&self.months, self.top(), m as u64);
+        self.offsets[k]
+    }
+
+    // TAI-UTC in the calendar's month m and in the one after it, by one walk: what has begun in m is among what has begun in m + 1.
+    pub fn near(&self, m: u32) -> OffsetPair
+        ensures { result ≡ near_at self.now m }
+    {
+        let after = last_begun(&self.months, self.top(), m as u64 + 1);
+        let at = last_begun(&self.months, after, m as u64);
+        OffsetPair {
+            here: self.offsets[at],
+            next: self.offsets[after],
+        }
     }
 }
 
-// ---- what a reader of tables answers
-
-#[derive(Clone, Copy)]
-pub enum TableAnswer {
-    Read,
-    Refused(Refusal, usize),
-}
-
-// The table is all zero on a refusal.
-#[derive(Clone, Copy)]
-pub struct TableRead {
-    pub answer: TableAnswer,
-    pub table: Table,
-}
-
-pub fn found<'a>(
-    count: usize,
-    months: &'a [u32; 64],
-    offsets: &'a [i32; 64],
-    vouched: u32,
-) -> TableRead
-    ensures { result ≡ found (vouched_to vouched (tabled count months.now offsets.now)) }
+// A table that was read, judged: an accepted one is the answer, another is refused without a place.
+pub fn judge(t: &Table) -> Result<Table, Fault>
+    ensures { result ≡ judged t.now }
 {
-    let answer = TableAnswer::Read;
-    let table = tabled(count, months, offsets, vouched);
-    TableRead { answer, table }
+    if t.is_accepted() {
+        return Ok(*t);
+    }
+    Err(Fault::from(Refusal::Table))
 }
 
-pub fn refused_at(why: Refusal, at: usize) -> TableRead
-    ensures { result ≡ refused_at why at }
-{
-    let answer = TableAnswer::Refused(why, at);
-    let table = Table {
-        count: 0,
-        months: [0; 64],
-        offsets: [0; 64],
-        vouched: 0,
-    };
-    TableRead { answer, table }
-}
-
-// ---- the check: one place at a time on plain numbers, and a flag in each loop, so that the loops compile to vectors
+// ---- one place of a table
 
 // Only the lesser of two numbers is raised by one, so the sum fits.
 fn one_above(low: i32, high: i32) -> bool
     ensures { result ≡ eq_z high (suc_ℤ low) }
 {
-    if low < high {
-        return high == low + 1;
-    }
-    false
+    low < high && high == low + 1
 }
 
 fn one_apart(a: i32, b: i32) -> bool
@@ -124,80 +169,12 @@ fn unused_right(month: u32, offset: i32) -> bool
     (month == 0) & (offset == 0)
 }
 
-// The first entry, and each later one after the entry before it.
-fn used_right<'a>(count: usize, months: &'a [u32; 64], offsets: &'a [i32; 64]) -> bool
-    requires { (1 ≤ count) × (count ≤ 64) }
-    ensures { result ≡ all_below (place_right (tabled count months.now offsets.now)) count }
-{
-    let mut ok = first_right(months[0], offsets[0]);
-    let mut k = 0;
-    while k + 1 < count {
-        ok = ok & later_right(months[k], offsets[k], months[k + 1], offsets[k + 1]);
-        k += 1;
-    }
-    ok
-}
-
-// The places in use, and then the unused ones.
-fn all_right<'a>(count: usize, months: &'a [u32; 64], offsets: &'a [i32; 64]) -> bool
-    requires { (1 ≤ count) × (count ≤ 64) }
-    ensures { result ≡ all_below (place_right (tabled count months.now offsets.now)) 64 }
-{
-    let mut ok = used_right(count, months, offsets);
-    let mut k = count;
-    while k < 64 {
-        ok = ok & unused_right(months[k], offsets[k]);
-        k += 1;
-    }
-    ok
-}
-
 // A month number as a table has it, where the last entry's month is `last`.
 pub fn vouched_right(last: u32, vouched: u32) -> bool
     ensures { result ≡ vouched_right last vouched }
 {
-    if vouched < 1 {
-        return true;
-    }
-    if vouched <= last {
-        return false;
-    }
-    vouched <= LAST_ENTRY_MONTH + 1
+    vouched == 0 || (last < vouched && vouched <= LAST_ENTRY_MONTH + 1)
 }
-
-// The check. The arrays are lent: a table by value is copied.
-#[tactic(auto, unfolding(crate::specs::Leap::accepted))]
-pub fn is_accepted_in<'a>(
-    count: usize,
-    months: &'a [u32; 64],
-    offsets: &'a [i32; 64],
-    vouched: u32,
-) -> bool
-    ensures { result ≡ accepted (vouched_to vouched (tabled count months.now offsets.now)) }
-{
-    if count < 1 {
-        return false;
-    }
-    if 64 < count {
-        return false;
-    }
-    if !all_right(count, months, offsets) {
-        return false;
-    }
-    vouched_right(months[count - 1], vouched)
-}
-
-// A table that was read, judged: an accepted one is the answer, another is refused without a place.
-pub fn judge<'a>(count: usize, months: &'a [u32; 64], offsets: &'a [i32; 64]) -> TableRead
-    ensures { result ≡ judged (tabled count months.now offsets.now) }
-{
-    if is_accepted_in(count, months, offsets, 0) {
-        return found(count, months, offsets, 0);
-    }
-    refused_at(Refusal::Table, 0)
-}
-
-// ---- TAI-UTC
 
 // A month of the table has begun in the calendar's month m.
 fn has_begun(month: u32, m: u64) -> bool
@@ -207,6 +184,7 @@ fn has_begun(month: u32, m: u64) -> bool
 }
 
 // Of the entries 0 to `from`, the last that has begun in the calendar's month m.
+// while: the walk goes down and ends at the first place, whose month is not asked; a reversed range needs the yielded places in its proof.
 fn last_begun(months: &[u32; 64], from: usize, m: u64) -> usize
     requires { from < 64 }
     ensures { (result ≡ last_begun months.now m from) × (result < 64) }
@@ -221,55 +199,13 @@ fn last_begun(months: &[u32; 64], from: usize, m: u64) -> usize
     0
 }
 
-fn top_of(count: usize) -> usize
-    ensures { (result ≡ top count) × (result < 64) }
-{
-    if 63 < count {
-        return 63;
-    }
-    if count < 1 {
-        return 0;
-    }
-    count - 1
-}
-
-// TAI-UTC in the calendar's month m, counted from January of year 0.
-pub fn offset_at<'a>(count: usize, months: &'a [u32; 64], offsets: &'a [i32; 64], m: u32) -> i32
-    ensures { result ≡ offset_at (tabled count months.now offsets.now) m }
-{
-    let k = last_begun(months, top_of(count), m as u64);
-    offsets[k]
-}
-
-// TAI-UTC in a month and in the month after it.
-#[derive(Clone, Copy)]
-pub struct OffsetPair {
-    pub here: i32,
-    pub next: i32,
-}
-
-// TAI-UTC in the calendar's month m and in the one after it, by one walk: what has begun in m is among what has begun in m + 1.
-pub fn near<'a>(count: usize, months: &'a [u32; 64], offsets: &'a [i32; 64], m: u32) -> OffsetPair
-    ensures { result ≡ near_at (tabled count months.now offsets.now) m }
-{
-    let after = last_begun(months, top_of(count), m as u64 + 1);
-    let at = last_begun(months, after, m as u64);
-    OffsetPair {
-        here: offsets[at],
-        next: offsets[after],
-    }
-}
-
 // ---- beyond
 
 // The calendar's month m is later than the month that a table is vouched for, if one is given.
 pub fn beyond(vouched: u32, m: u64) -> bool
     ensures { result ≡ beyond vouched m }
 {
-    if vouched < 1 {
-        return false;
-    }
-    EPOCH as u64 + vouched as u64 <= m
+    vouched != 0 && EPOCH as u64 + vouched as u64 <= m
 }
 
 // ---- Bulletin C
@@ -277,10 +213,5 @@ pub fn beyond(vouched: u32, m: u64) -> bool
 pub fn bulletin_c() -> Table
     ensures { result ≡ bulletin_c }
 {
-    Table {
-        count: 28,
-        months: bulletin::MONTHS,
-        offsets: bulletin::OFFSETS,
-        vouched: 0,
-    }
+    Table::new(28, bulletin::MONTHS, bulletin::OFFSETS, 0)
 }

@@ -3,16 +3,16 @@
 use mathlib.Core.Path.{◌≡◌, refl, sym, ap, ◌∙◌}
 use mathlib.Core.Bool.{Bool, true, false, cond}
 use mathlib.Core.List.{List, [], ◌∷◌, ◌++◌, append_assoc, append-nil}
-use Prim.Native.Nat.{ℕ, suc, ◌+◌, ◌*◌, ◌/◌, ◌%◌, ◌≤◌, ◌<◌}
+use Prim.Native.Nat.{ℕ, zero, suc, ◌+◌, ◌*◌, ◌/◌, ◌%◌, ◌≤◌, ◌<◌}
 use native.Mathlib.Numerals.{add-one}
 use native.Mathlib.Omega.{arith}
-use borrow.Author.Tests.{lt-ltb, le-ltb, eq-eqb, ne_eqb, le-leb, lt-leb}
+use borrow.Author.Tests.{lt-ltb, ltb-true, eq-eqb, ne_eqb, le-leb, lt-leb}
 use lib.Dec.{eqb, ltb, leb}
 use lib.ListN.{length, take, drop, get_or, set, take-append-drop, length-drop, length-set}
 use lib.Seq.{drop-cons, drop-drop, take_at, take-suc, take-suc-set, drop-set-lt, length-take-le}
+use Rattle.std.specs.Prelude.{Some, None}
 use Rattle.laws.specs.Placed.{place}
 use Rattle.laws.proofs.Placed.{place_none, place_then}
-use Rattle.digits.specs.declared.Number.TheVariants.{Is, Bad}
 use Rattle.lines.specs.Pairs.{nibble, paired, all_pairs, hex_of, hex_into, glyph, hex_text, hex_shown}
 
 -- the two digits at a pair's place
@@ -30,14 +30,6 @@ module _ (s : List ℕ) (i : ℕ) (h : i * 2 + 1 < length s) where
     pub pair_good : a < 16 → b < 16 → paired (drop (i * 2) s) ≡ (a * 16 + b) ∷ paired (drop ((i + 1) * 2) s)
     unfolding paired
     pair_good x y = rw (pair, ← p, ← q, lt-ltb a 16 x, lt-ltb b 16 y)
-
-    pub pair_bad_a : 16 ≤ a → paired (drop (i * 2) s) ≡ []
-    unfolding paired
-    pair_bad_a x = rw (pair, ← p, le-ltb a 16 x)
-
-    pub pair_bad_b : a < 16 → 16 ≤ b → paired (drop (i * 2) s) ≡ []
-    unfolding paired
-    pair_bad_b x y = rw (pair, ← p, ← q, lt-ltb a 16 x, le-ltb b 16 y)
 
 short : (s : List ℕ) → length s ≤ 1 → paired s ≡ []
 unfolding paired
@@ -88,24 +80,24 @@ module _ (w start out : List ℕ) (i : ℕ) (r : Read w start out i) (room : len
 
 -- ---- a word of pairs in a buffer with room
 module _ (out s : List ℕ) where
-  pub no_room : length out < length s / 2 → (Bad ≡ hex_of (length out) s) × (out ≡ hex_into out s)
+  pub no_room : length out < length s / 2 → (None ≡ hex_of (length out) s) × (out ≡ hex_into out s)
   unfolding hex_of hex_into
   no_room h = (rw (lt-leb (length s / 2) (length out) h), rw (lt-leb (length s / 2) (length out) h))
 
   module _ (h : length s / 2 ≤ length out) {n : ℕ} (p : n ≡ length (paired s)) where
-    pub not_pairs : (n * 2 ≡ length s → ⊥) → (Bad ≡ hex_of (length out) s) × (out ≡ hex_into out s)
+    pub not_pairs : (n * 2 ≡ length s → ⊥) → (None ≡ hex_of (length out) s) × (out ≡ hex_into out s)
     unfolding hex_of hex_into all_pairs
     not_pairs e =
         let r = le-leb (length s / 2) (length out) h in
         let q = ne_eqb (n * 2) (length s) e in
         (rw (r, ← p, q), rw (r, ← p, q))
 
-    pub all_pairs_lem : n * 2 ≡ length s → {m : ℕ} {after : List ℕ} → (m ≡ length (paired s)) × (after ≡ place out 0 (paired s)) → (Is m ≡ hex_of (length out) s) × (after ≡ hex_into out s)
+    pub all_pairs_lem : n * 2 ≡ length s → {m : ℕ} {after : List ℕ} → (m ≡ length (paired s)) × (after ≡ place out 0 (paired s)) → (Some m ≡ hex_of (length out) s) × (after ≡ hex_into out s)
     unfolding hex_of hex_into all_pairs
     all_pairs_lem e {m} {after} u =
         let r = le-leb (length s / 2) (length out) h in
         let q : eqb (length (paired s) * 2) (length s) ≡ true = eq-eqb (length (paired s) * 2) (length s) (ap (λ (k : ℕ). k * 2) (sym p) ∙ e) in
-        (rw (r, q) (ap Is u.0), rw (r, q) u.1)
+        (rw (r, q) (ap Some u.0), rw (r, q) u.1)
 
 pub paired_few : (s : List ℕ) → length (paired s) * 2 ≤ length s
 unfolding paired
@@ -117,6 +109,23 @@ paired_few (a ∷ b ∷ s) = go (ltb (nibble a) 16) (ltb (nibble b) 16) (paired_
     go false y h = omega arith
     go true false h = omega arith
     go true true h = omega arith
+
+-- where nothing but pairs stands, each byte is a hex digit
+pub pairs_digits : (s : List ℕ) → length (paired s) * 2 ≡ length s → (k : ℕ) → k < length s → nibble (get_or s k 0) < 16
+unfolding paired
+pairs_digits [] e k h = absurd (omega arith)
+pairs_digits (a ∷ []) e k h = absurd (omega arith)
+pairs_digits (a ∷ b ∷ s) e k h = go (ltb (nibble a) 16) refl (ltb (nibble b) 16) refl e (pairs_digits s) k h
+  where
+    go : (x : Bool) → ltb (nibble a) 16 ≡ x → (y : Bool) → ltb (nibble b) 16 ≡ y
+        → length (cond x (cond y ((nibble a * 16 + nibble b) ∷ paired s) []) []) * 2 ≡ suc (suc (length s))
+        → (length (paired s) * 2 ≡ length s → (j : ℕ) → j < length s → nibble (get_or s j 0) < 16)
+        → (j : ℕ) → j < suc (suc (length s)) → nibble (get_or (a ∷ b ∷ s) j 0) < 16
+    go false p y q e ih j l = absurd (omega arith)
+    go true p false q e ih j l = absurd (omega arith)
+    go true p true q e ih zero l = ltb-true (nibble a) 16 p
+    go true p true q e ih (suc zero) l = ltb-true (nibble b) 16 q
+    go true p true q e ih (suc (suc j)) l = ih (omega arith) j (omega arith)
 
 -- nothing is stored where there are no pairs
 pub into_none : (out s : List ℕ) → paired s ≡ [] → out ≡ hex_into out s
@@ -130,40 +139,25 @@ into_none out s e = go (leb (length s / 2) (length out)) (all_pairs s)
 
 -- ---- a caller with room for every pair
 module _ (s : List ℕ) {room : ℕ} (h : length s / 2 ≤ room) where
-  pub hex_bad : hex_of room s ≡ Bad → all_pairs s ≡ false
+  pub hex_bad : hex_of room s ≡ None → all_pairs s ≡ false
   unfolding hex_of
   hex_bad e = go (all_pairs s) (rw (le-leb (length s / 2) room h) at e)
     where
-      go : (t : Bool) → cond t (Is (length (paired s))) Bad ≡ Bad → t ≡ false
+      go : (t : Bool) → cond t (Some (length (paired s))) None ≡ None → t ≡ false
       go true q = cc
       go false q = refl
 
-  pub hex_good : {n : ℕ} → hex_of room s ≡ Is n → (all_pairs s ≡ true) × (n ≡ length (paired s))
+  pub hex_good : {n : ℕ} → hex_of room s ≡ Some n → (all_pairs s ≡ true) × (n ≡ length (paired s))
   unfolding hex_of
   hex_good {n} e = go (all_pairs s) (rw (le-leb (length s / 2) room h) at e)
     where
-      go : (t : Bool) → cond t (Is (length (paired s))) Bad ≡ Is n → (t ≡ true) × (n ≡ length (paired s))
+      go : (t : Bool) → cond t (Some (length (paired s))) None ≡ Some n → (t ≡ true) × (n ≡ length (paired s))
       go true q = (refl, cc)
       go false q = (cc, cc)
 
 pub into_front : (out s : List ℕ) → length s / 2 ≤ length out → all_pairs s ≡ true → take (length (paired s)) (hex_into out s) ≡ paired s
 unfolding hex_into
 into_front out s h e = rw (le-leb (length s / 2) (length out) h, e) (take_at (paired s) _ (length (paired s)) refl)
-
--- ---- pairs counted
--- those passed and those still to come are all
-pub record Counted (w : List ℕ) (i : ℕ) : Type 0 where
-  pub whole : i + length (paired (drop (i * 2) w)) ≡ length (paired w)
-  pub low : i ≤ length w / 2
-
-pub count_none : (w : List ℕ) → Counted w 0
-count_none w = let e : length (paired (drop (0 * 2) w)) ≡ length (paired w) = refl in record { whole = omega (arith, e); low = omega arith }
-
-pub count_more : (w : List ℕ) (i : ℕ) → Counted w i → i < length w / 2 → {v : ℕ} → paired (drop (i * 2) w) ≡ v ∷ paired (drop ((i + 1) * 2) w) → Counted w (i + 1)
-count_more w i c h e = let n = ap length e in record { whole = omega (arith, c.whole, n); low = omega arith }
-
-pub count_done : (w : List ℕ) (i : ℕ) → Counted w i → paired (drop (i * 2) w) ≡ [] → i ≡ length (paired w)
-count_done w i c e = let n = ap length e in omega (arith, c.whole, n)
 
 -- ---- bytes as hex
 

@@ -1,9 +1,7 @@
 -- Bytes as pairs of hex digits, read and written.
 -- Assumes nothing.
-use Rattle.std.specs.Prelude.{ℕ, ◌+◌, ◌-◌, ◌*◌, ◌/◌, ◌%◌, Bool, cond, ◌&&◌, List, [], ◌∷◌, eqb, leb, ltb, length}
+use Rattle.std.specs.Prelude.{ℕ, ◌+◌, ◌-◌, ◌*◌, ◌/◌, ◌%◌, Bool, cond, ◌&&◌, List, [], ◌∷◌, eqb, leb, ltb, length, Option, Some, None}
 use Rattle.laws.specs.Placed.{place}
-use Rattle.digits.specs.declared.Number.{Number}
-use Rattle.digits.specs.declared.Number.TheVariants.{Is, Bad}
 
 -- ---- in
 
@@ -26,8 +24,8 @@ unfoldable pub all_pairs : List ℕ → Bool
 all_pairs s = eqb (length (paired s) * 2) (length s)
 
 -- how many bytes a word of pairs gives, if there is room for them
-unfoldable pub hex_of : ℕ → List ℕ → Number
-hex_of room s = cond (leb (length s / 2) room) (cond (all_pairs s) (Is (length (paired s))) Bad) Bad
+unfoldable pub hex_of : ℕ → List ℕ → Option ℕ
+hex_of room s = cond (leb (length s / 2) room) (cond (all_pairs s) (Some (length (paired s))) None) None
 
 -- and the buffer afterwards: the bytes in front, or as it was where there is no room or not all are pairs
 unfoldable pub hex_into : List ℕ → List ℕ → List ℕ

@@ -2,14 +2,12 @@
 // Every public function is total.
 #![tactic(auto)]
 
-ghost use Rattle.std.specs.Prelude.{◌≡◌, [], ◌∷◌, ◌+◌, ◌*◌, ◌/◌, ◌≤◌, ◌<◌, min, length, drop};
+ghost use Rattle.std.specs.Prelude.{◌≡◌, [], ◌∷◌, ◌+◌, ◌*◌, ◌/◌, ◌≤◌, ◌<◌, ◌↔◌, min, length, drop, IsTrue, EachIndex, slice_index};
 ghost use Rattle.laws.specs.Placed.{place};
 ghost use Rattle.digits.specs.Bytes.{Counts, Appended};
 ghost use Rattle.lines.specs.Words.{before, leading, is_blank, past as Words·past, line_of, line_start};
 ghost use Rattle.lines.specs.Cuts.{piece_at, cut_at, held_in};
 ghost use Rattle.lines.specs.Pairs.{nibble, paired, hex_of, hex_into, glyph as Pairs·glyph, hex_text, hex_shown};
-
-use digits::Number;
 
 // The index of the first b from `from` on; the end, or `from` itself past that.
 #[tactic(auto, using(crate::proofs::Words::before_here, crate::proofs::Words::before_more, crate::proofs::Words::before_end))]
@@ -17,14 +15,12 @@ pub fn until(s: &[u8], from: usize, b: u8) -> usize
     ensures value { result ≡ from + length (before b (drop from s.now)) }
     ensures upper_bound { (from ≤ length s.now → result ≤ length s.now) × (from ≤ result) }
 {
-    let mut i = from;
-    while i < s.len() {
+    for i in from..s.len() {
         if s[i] == b {
             return i;
         }
-        i += 1;
     }
-    i
+    from.max(s.len())
 }
 
 // The index behind the blanks from `from` on; the end, or `from` itself past that.
@@ -33,14 +29,12 @@ pub fn past_blanks(s: &[u8], from: usize) -> usize
     ensures value { result ≡ from + length (leading is_blank (drop from s.now)) }
     ensures upper_bound { (from ≤ length s.now → result ≤ length s.now) × (from ≤ result) }
 {
-    let mut i = from;
-    while i < s.len() {
+    for i in from..s.len() {
         if s[i] != b' ' {
             return i;
         }
-        i += 1;
     }
-    i
+    from.max(s.len())
 }
 
 // The index behind the first b from `from` on; the end where there is none.
@@ -48,10 +42,7 @@ pub fn past(s: &[u8], from: usize, b: u8) -> usize
     ensures { (result ≡ Words·past b s.now from) × (result ≤ length s.now) }
 {
     let end = until(s, from, b);
-    if end < s.len() {
-        return end + 1;
-    }
-    s.len()
+    if end < s.len() { end + 1 } else { s.len() }
 }
 
 // Where line k of a text begins, counted from 0; the end where there are fewer.
@@ -60,10 +51,8 @@ pub fn line_start(s: &[u8], k: usize) -> usize
     ensures s_value { (before 10 (drop result s.now) ≡ line_of s.now k) × (result ≤ length s.now) }
 {
     let mut from = 0;
-    let mut done = 0;
-    while done < k {
-        from = past(s, from, 10);
-        done += 1;
+    for _line in 0..k {
+        from = past(s, from, b'\n');
     }
     from
 }
@@ -73,7 +62,7 @@ pub fn front(s: &[u8], n: usize) -> usize
     ensures counts { Counts result s.now }
     ensures value { result ≡ min n (length s.now) }
 {
-    if n < s.len() { n } else { s.len() }
+    n.min(s.len())
 }
 
 // ---- lines out of chunks
@@ -104,101 +93,57 @@ pub fn take_line(chunk: &[u8], from: usize, line: &mut [u8], held: usize) -> Cut
     ensures at_value { result.at ≡ min (from + length (piece_at chunk.now from) + 1) (length chunk.now) }
 {
     let first = front(chunk, from);
-    let end = until(chunk, first, 10);
+    let end = until(chunk, first, b'\n');
     let len = hold(line, held, &chunk[first..end]);
-    if end < chunk.len() {
-        return Cut {
-            at: end + 1,
-            len,
-            ended: true,
-        };
-    }
-    Cut {
-        at: end,
-        len,
-        ended: false,
-    }
+    let ended = end < chunk.len();
+    let at = if ended { end + 1 } else { end };
+    Cut { at, len, ended }
 }
 
 // ---- hex in
 
-// The value of a hex digit of either case; 16 for any other byte.
+// The value of a hex digit of either case; 16 for any other byte, as `nibble` of specs/ has it, whose definition the promise on this function cites.
 #[tactic(auto, unfolding(crate::specs::Pairs::nibble))]
 pub fn hex_digit(b: u8) -> u8
     ensures { (result ≡ nibble b) × (result ≤ 16) }
 {
-    if b < 48 {
-        return 16;
+    match b {
+        b'0'..=b'9' => b - b'0',
+        b'A'..=b'F' => b - b'A' + 10,
+        b'a'..=b'f' => b - b'a' + 10,
+        _ => 16,
     }
-    if b <= 57 {
-        return b - 48;
-    }
-    if b < 65 {
-        return 16;
-    }
-    if b <= 70 {
-        return b - 55;
-    }
-    if b < 97 {
-        return 16;
-    }
-    if b <= 102 {
-        return b - 87;
-    }
-    16
 }
 
-// How many pairs of hex digits stand before the first that is none.
-fn count_pairs(word: &[u8]) -> usize
-    ensures { result ≡ length (paired word.now) }
+// Whether a word has hex digits alone.
+fn all_hex(word: &[u8]) -> bool
+    ensures { IsTrue result ↔ EachIndex word.now (λ k. nibble (slice_index word.now k) < 16) }
 {
-    let mut i = 0;
-    while i < word.len() / 2 {
-        let a = hex_digit(word[i * 2]);
-        let b = hex_digit(word[i * 2 + 1]);
-        if 15 < a {
-            return i;
-        }
-        if 15 < b {
-            return i;
-        }
-        i += 1;
-    }
-    i
+    word.iter().all(|b| hex_digit(*b) < 16)
 }
 
-// Stores the bytes of the pairs of hex digits up to the first that is none, and gives their number.
-fn unhex(word: &[u8], out: &mut [u8]) -> usize
-    requires { length word.now / 2 ≤ length out.old }
-    ensures { (result ≡ length (paired word.now)) × (out.new ≡ place out.old 0 (paired word.now)) }
+// Stores the bytes of a word of hex pairs.
+fn unhex(word: &[u8], out: &mut [u8])
+    requires room { length word.now / 2 ≤ length out.old }
+    requires digits { EachIndex word.now (λ k. nibble (slice_index word.now k) < 16) }
+    ensures { (length word.now / 2 ≡ length (paired word.now)) × (out.new ≡ place out.old 0 (paired word.now)) }
 {
-    let mut i = 0;
-    while i < word.len() / 2 {
-        let a = hex_digit(word[i * 2]);
-        let b = hex_digit(word[i * 2 + 1]);
-        if 15 < a {
-            return i;
-        }
-        if 15 < b {
-            return i;
-        }
-        out[i] = a * 16 + b;
-        i += 1;
+    // An index: a zip with chunks_exact would have an iterator for each side and still index the pair.
+    for i in 0..word.len() / 2 {
+        out[i] = hex_digit(word[i * 2]) * 16 + hex_digit(word[i * 2 + 1]);
     }
-    i
 }
 
 // The bytes of a word of hex pairs, if there is room for them all. It judges before it stores: a refusal leaves the buffer as it was.
-pub fn hex(word: &[u8], out: &mut [u8]) -> Number
+pub fn hex(word: &[u8], out: &mut [u8]) -> Option<u64>
     ensures { (result ≡ hex_of (length out.old) word.now) × (out.new ≡ hex_into out.old word.now) }
 {
-    if out.len() < word.len() / 2 {
-        return Number::Bad;
+    let size = word.len() / 2;
+    if out.len() < size || word.len() % 2 != 0 || !all_hex(word) {
+        return None;
     }
-    if count_pairs(word) * 2 != word.len() {
-        return Number::Bad;
-    }
-    Number::Is(unhex(word, out) as u64)
+    unhex(word, out);
+    Some(size as u64)
 }
 
 // ---- hex out
@@ -208,10 +153,11 @@ fn glyph(d: u8) -> u8
     requires { d < 16 }
     ensures { result ≡ Pairs·glyph d }
 {
-    if d < 10 { 48 + d } else { 87 + d }
+    if d < 10 { b'0' + d } else { b'a' + (d - 10) }
 }
 
 // The two hex digits of a byte.
+#[tactic(auto, unfolding(crate::specs::Pairs::hex_text))]
 fn glyphs(b: u8) -> [u8; 2]
     ensures { result ≡ hex_text (b ∷ []) }
 {
@@ -223,11 +169,8 @@ fn put_hex(out: &mut [u8], at: usize, bytes: &[u8])
     requires { at + length bytes.now * 2 ≤ length out.old }
     ensures { out.new ≡ place out.old at (hex_text bytes.now) }
 {
-    let mut i = 0;
-    while i < bytes.len() {
-        let pair = glyphs(bytes[i]);
-        digits::append(out, at + i * 2, &pair);
-        i += 1;
+    for (i, b) in bytes.iter().enumerate() {
+        digits::append(out, at + i * 2, &glyphs(*b));
     }
 }
 
@@ -235,7 +178,7 @@ fn put_hex(out: &mut [u8], at: usize, bytes: &[u8])
 pub fn append_hex(out: &mut [u8], at: usize, bytes: &[u8]) -> usize
     ensures { Appended out.old at (hex_shown bytes.now) result out.new }
 {
-    if bytes.len() == 0 {
+    if bytes.is_empty() {
         return digits::append(out, at, b"-");
     }
     if out.len() < at {

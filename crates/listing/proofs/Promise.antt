@@ -14,10 +14,11 @@ use Rattle.laws.proofs.Cases.{by_order}
 use Rattle.answer.specs.declared.Refusal.TheVariants.{Shape as SHAPE}
 use Rattle.leap.specs.declared.Table.{Table}
 use Rattle.labels.specs.declared.Label.{Label}
-use Rattle.leap.specs.declared.TableAnswer.{TableAnswer}
-use Rattle.leap.specs.declared.TableAnswer.TheVariants.{Read as BlockGood, Refused as BlockBad}
-use Rattle.text.specs.declared.TextAnswer.{TextAnswer}
-use Rattle.text.specs.declared.TextAnswer.TheVariants.{Read, Refused as NotRead}
+use Rattle.std.specs.Prelude.{Result, Ok, Err}
+use lib.IntN.{ℤ}
+use Rattle.answer.specs.declared.Refusal.{Refusal}
+use Rattle.stamp.specs.declared.Stamp.{Stamp}
+use Rattle.answer.specs.declared.Fault.{Fault}
 use Rattle.lines.specs.Words.{before, line_of}
 use Rattle.listing.specs.Listing.{block_line, stamp_line, count_line, refusal_text, after_block, after_stamp, from_count, from_stamp, from_block, listed}
 use Rattle.listing.specs.Promise.{Listings}
@@ -81,13 +82,13 @@ long_count : (t : Table) (l : Label) (c : List ℕ) → 1024 < length c → from
 unfolding from_count count_line
 long_count t l c h = rw (lt-leb (length c) 1024 h)
 
-block_same : (f g : Table → List ℕ) (t : Table) (a : TableAnswer) → ((t : Table) → f t ≡ g t) → after_block f t a ≡ after_block g t a
-block_same f g t BlockGood h = h t
-block_same f g t (BlockBad why at) h = refl
+block_same : (f g : Table → List ℕ) (a : Result Table Fault) → ((t : Table) → f t ≡ g t) → after_block f a ≡ after_block g a
+block_same f g (Ok t) h = h t
+block_same f g (Err fault) h = refl
 
-stamp_same : (f g : Label → List ℕ) (a : TextAnswer) → ((l : Label) → f l ≡ g l) → after_stamp f a ≡ after_stamp g a
-stamp_same f g (Read instant stamp) h = h stamp.reading.label
-stamp_same f g (NotRead why) h = refl
+stamp_same : (f g : Label → List ℕ) (a : Result (ℤ × Stamp) Refusal) → ((l : Label) → f l ≡ g l) → after_stamp f a ≡ after_stamp g a
+stamp_same f g (Ok (instant, stamp)) h = h stamp.reading.label
+stamp_same f g (Err why) h = refl
 
 third_cut : (t : Table) (l : Label) (n : ℕ) (s : List ℕ) → 1025 ≤ n → from_count t l (before 10 (take n s)) ≡ from_count t l (before 10 s)
 third_cut t l n s h = cut (λ line more. from_count t l line) (λ line more far. long_count t l line far) n s h (λ near. refl)
@@ -103,7 +104,7 @@ first_cut : (n : ℕ) (s : List ℕ) → 3075 ≤ n
 unfolding from_block
 first_cut n s h =
     cut (λ line more. from_block line (before 10 more) (before 10 (rest more))) (λ line more far. long_block line (before 10 more) (before 10 (rest more)) far) n s (omega arith)
-    (λ near. block_same _ _ (block_line (before 10 s)).table (block_line (before 10 s)).answer (λ t. second_cut t (n - (length (before 10 s) + 1)) (rest s) (omega arith)))
+    (λ near. block_same _ _ (block_line (before 10 s)) (λ t. second_cut t (n - (length (before 10 s) + 1)) (rest s) (omega arith)))
 
 enough_read : (input : List ℕ) → listed (take 3075 input) ≡ listed input
 unfolding listed line_of

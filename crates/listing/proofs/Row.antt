@@ -9,6 +9,7 @@ use borrow.Author.Tests.{le-leb}
 use lib.IntN.{ℤ, pos, negsuc, ◌+ℤ◌, ◌-ℤ◌, ◌*ℤ◌}
 use lib.ListN.{length, drop, length-append, drop_of_length-le}
 use lib.Signed.{quot_z}
+use Rattle.std.specs.Prelude.{Ok, Err}
 use Rattle.laws.proofs.Difference.{sum_is, diff_is, eq_from}
 use Rattle.laws.proofs.Machine.{times_is}
 use Rattle.answer.specs.declared.Refusal.{Refusal}
@@ -18,7 +19,6 @@ use Rattle.leap.specs.Leap.{accepted, offset_at}
 use Rattle.stamp.specs.declared.Scale.TheVariants.{Utc}
 use Rattle.labels.specs.declared.Label.{Label}
 use Rattle.labels.specs.declared.Reading.{Reading}
-use Rattle.stamp.specs.declared.InstantAnswer.TheVariants.{At, Refused}
 use Rattle.labels.specs.Labels.{label_tests, month_of, whole}
 use Rattle.labels.specs.Seconds.{micro_of, second_of}
 use Rattle.stamp.specs.Stamps.{instant_of}
@@ -56,16 +56,16 @@ tai_column t l =
     (omega (arith, instant_is Utc (micro_of (whole l)) (offset_at t (month_of l)), times_is 1000000 (y -ℤ pos 63113947200), diff_is y (pos 63113947200), sum_is (pos (second_of l)) (offset_at t (month_of l))))
 
 module _ (t : Table) (l : Label) (good : accepted t ≡ true) (there : admits t l ≡ true) where
-  pub has_instant : instant_of t 0 (whole l) ≡ At (instant_for t Utc (whole l))
+  pub has_instant : instant_of t 0 (whole l) ≡ Ok (instant_for t Utc (whole l))
   unfolding instant_of
-  has_instant = rw good (none_refused Refused (label_tests (offset_at t) 60 (whole l)) (At (instant_for t Utc (whole l))) there)
+  has_instant = rw good (none_refused Err (label_tests (offset_at t) 60 (whole l)) (Ok (instant_for t Utc (whole l))) there)
 
-  pub not_refused : {why : Refusal} → instant_of t 0 (whole l) ≡ Refused why → ⊥
+  pub not_refused : {why : Refusal} → instant_of t 0 (whole l) ≡ Err why → ⊥
   not_refused {why} e =
-      let q : At (instant_for t Utc (whole l)) ≡ Refused why = sym has_instant ∙ e in
+      let q : Ok (instant_for t Utc (whole l)) ≡ Err why = sym has_instant ∙ e in
       let z : ◌≡◌ {A = ℕ} 0 1 = cc q in omega arith
 
-  module _ {x : ℤ} (e : instant_of t 0 (whole l) ≡ At x) where
+  module _ {x : ℤ} (e : instant_of t 0 (whole l) ≡ Ok x) where
     pub tai_is : quot_z x (pos 1000000) ≡ tai_second t l
     tai_is =
         let q : x ≡ instant_for t Utc (whole l) = cc has_instant in

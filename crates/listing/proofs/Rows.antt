@@ -7,12 +7,12 @@ use mathlib.Core.List.{List, [], ◌++◌, append_assoc, append-nil}
 use Prim.Native.Nat.{ℕ, suc, ◌+◌, ◌-◌, ◌*◌, ◌≤◌, ◌<◌}
 use native.Mathlib.Omega.{arith}
 use lib.ListN.{length}
+use Rattle.std.specs.Prelude.{Ok, Err}
 use Rattle.laws.proofs.Placed.{place_none}
 use Rattle.answer.specs.declared.Refusal.{Refusal}
 use Rattle.leap.specs.declared.Table.{Table}
 use Rattle.leap.specs.Leap.{accepted}
 use Rattle.labels.specs.declared.Label.{Label}
-use Rattle.clock.specs.declared.TickAnswer.TheVariants.{Next, Refused as Ended}
 use Rattle.clock.specs.Clock.{tick, tick_results}
 use Rattle.clock.specs.Promise.{last_label, admits, Follows, ended}
 use Rattle.clock.proofs.Promise.{all_tick}
@@ -21,7 +21,7 @@ use Rattle.digits.proofs.Bytes.{is_placed, then_placed}
 use Rattle.listing.specs.Listing.{row_text, row_after, rows_from}
 
 -- what a tick of an admitted label gives is admitted
-stays : (t : Table) (l l' : Label) → ((k : Label) × ((tick_results (tick t l) ≡ (0, k)) × Follows t l k)) ⊎ ((l ≡ last_label) × (tick_results (tick t l) ≡ ended)) → tick t l ≡ Next l' → admits t l' ≡ true
+stays : (t : Table) (l l' : Label) → ((k : Label) × ((tick_results (tick t l) ≡ (0, k)) × Follows t l k)) ⊎ ((l ≡ last_label) × (tick_results (tick t l) ≡ ended)) → tick t l ≡ Ok l' → admits t l' ≡ true
 stays t l l' (inl w) e =
     let q : w.0 ≡ l' = ap (λ v. v.1) (sym w.1.0 ∙ ap tick_results e) in
     subst (λ x. admits t x ≡ true) q w.1.1.is_admitted
@@ -69,7 +69,7 @@ module _ (t : Table) (first : Label) (count from : ℕ) (start : List ℕ) where
           append_assoc r.done (row_text t l) _ ∙ subst (λ (k : ℕ). r.done ++ rows_from t k l ≡ rows_from t count first) n r.whole
 
       -- the clock goes on
-      pub rowed_more : {next : Label} → tick t l ≡ Next next → Rowed o next b (left - 1)
+      pub rowed_more : {next : Label} → tick t l ≡ Ok next → Rowed o next b (left - 1)
       rowed_more {next} e =
           record {
             done = r.done ++ row_text t l;
@@ -81,6 +81,6 @@ module _ (t : Table) (first : Label) (count from : ℕ) (start : List ℕ) where
           }
 
       -- the clock ends
-      pub rowed_last : {why : Refusal} → tick t l ≡ Ended why → Whole b o
+      pub rowed_last : {why : Refusal} → tick t l ≡ Err why → Whole b o
       rowed_last {why} e =
           let w : r.done ++ row_text t l ≡ rows_from t count first = sym (append-nil (r.done ++ row_text t l)) ∙ rw e at whole_is in rw w at more

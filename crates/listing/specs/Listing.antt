@@ -1,6 +1,6 @@
 -- What `ticks` prints, byte for byte: the first bad line decides, or the header and a line for each second.
 -- Assumes nothing.
-use Rattle.std.specs.Prelude.{ℕ, zero, suc, Bool, List, [], ◌∷◌, ◌++◌, leb, ℤ, pos, ◌+ℤ◌, ◌-ℤ◌, length}
+use Rattle.std.specs.Prelude.{ℕ, zero, suc, Bool, List, [], ◌∷◌, ◌++◌, leb, ℤ, pos, ◌+ℤ◌, ◌-ℤ◌, length, Result, Ok, Err, ok_or}
 use Rattle.answer.specs.declared.Refusal.{Refusal}
 use Rattle.answer.specs.declared.Refusal.TheVariants.{Shape as SHAPE, Ask as ASK}
 use Rattle.answer.specs.Refusals.{number, refusing}
@@ -9,26 +9,17 @@ use Rattle.leap.specs.Leap.{offset_at}
 use Rattle.labels.specs.declared.Label.{Label}
 use Rattle.labels.specs.Labels.{month_of, whole}
 use Rattle.labels.specs.Seconds.{second_of}
-use Rattle.clock.specs.declared.TickAnswer.{TickAnswer}
-use Rattle.clock.specs.declared.TickAnswer.TheVariants.{Next, Refused as Ended}
+use Rattle.stamp.specs.declared.Stamp.{Stamp}
 use Rattle.clock.specs.Clock.{tick}
-use Rattle.leap.specs.declared.TableAnswer.{TableAnswer}
-use Rattle.leap.specs.declared.TableAnswer.TheVariants.{Read as BlockGood, Refused as BlockBad}
-use Rattle.leap.specs.declared.TableRead.{TableRead}
+use Rattle.answer.specs.declared.Fault.{Fault}
 use Rattle.leap.specs.Readers.{refused_at}
 use Rattle.block.specs.Reading.{read_block}
-use Rattle.text.specs.declared.TextAnswer.{TextAnswer}
-use Rattle.text.specs.declared.TextAnswer.TheVariants.{Read, Refused as NotRead}
 use Rattle.digits.specs.Bytes.{ascii}
 use Rattle.text.specs.Text.{text_of, read_text}
-use Rattle.digits.specs.declared.Number.{Number}
-use Rattle.digits.specs.declared.Number.TheVariants.{Is, Bad}
 use Rattle.lines.specs.Words.{line_of, without}
 use Rattle.digits.specs.Decimals.{decimal_of}
 use Rattle.lines.specs.Pairs.{paired, all_pairs}
 use Rattle.digits.specs.Decimals.{decimal_text, signed_text}
-use Rattle.listing.specs.declared.CountAnswer.{CountAnswer}
-use Rattle.listing.specs.declared.CountAnswer.TheVariants.{Count, NoCount}
 
 -- ---- the three lines
 
@@ -37,21 +28,17 @@ abbrev pub short : List ℕ → Bool
 short line = leb (length line) 1024
 
 -- a block in hex
-unfoldable pub block_line : List ℕ → TableRead
+unfoldable pub block_line : List ℕ → Result Table Fault
 block_line line =
     refusing (λ why. refused_at why 0) ((short line, SHAPE) ∷ (all_pairs line, SHAPE) ∷ []) (read_block (paired line))
 
 -- a UTC stamp without fraction: no point (46) stands in it
-unfoldable pub stamp_line : Table → List ℕ → TextAnswer
-stamp_line t line = refusing NotRead ((short line, SHAPE) ∷ (without 46 line, SHAPE) ∷ []) (read_text t 0 line)
+unfoldable pub stamp_line : Table → List ℕ → Result (ℤ × Stamp) Refusal
+stamp_line t line = refusing Err ((short line, SHAPE) ∷ (without 46 line, SHAPE) ∷ []) (read_text t 0 line)
 
 -- a count up to 3600: plain digits
-abbrev pub as_count : Number → CountAnswer
-as_count (Is n) = Count n
-as_count Bad = NoCount ASK
-
-unfoldable pub count_line : List ℕ → CountAnswer
-count_line line = refusing NoCount ((short line, SHAPE) ∷ []) (as_count (decimal_of 3600 line))
+unfoldable pub count_line : List ℕ → Result ℕ Refusal
+count_line line = refusing Err ((short line, SHAPE) ∷ []) (ok_or (decimal_of 3600 line) ASK)
 
 -- ---- what is printed
 
@@ -74,9 +61,9 @@ unfoldable pub row_text : Table → Label → List ℕ
 row_text t l = text_of 0 0 (whole l) ++ (32 ∷ [] ++ (signed_text (tai_second t l) ++ 10 ∷ []))
 
 -- the line of the next second, or nothing after the last of 9999
-abbrev pub row_after : (Label → List ℕ) → TickAnswer → List ℕ
-row_after more (Next l) = more l
-row_after more (Ended why) = []
+abbrev pub row_after : (Label → List ℕ) → Result Label Refusal → List ℕ
+row_after more (Ok l) = more l
+row_after more (Err why) = []
 
 -- a line for each of n seconds from a label on
 unfoldable pub rows_from : Table → ℕ → Label → List ℕ
@@ -85,17 +72,17 @@ rows_from t (suc n) l = row_text t l ++ row_after (rows_from t n) (tick t l)
 
 -- ---- the first bad line decides
 
-abbrev pub after_block : (Table → List ℕ) → Table → TableAnswer → List ℕ
-after_block next t BlockGood = next t
-after_block next t (BlockBad why at) = refusal_text why
+abbrev pub after_block : (Table → List ℕ) → Result Table Fault → List ℕ
+after_block next (Ok t) = next t
+after_block next (Err fault) = refusal_text fault.why
 
-abbrev pub after_stamp : (Label → List ℕ) → TextAnswer → List ℕ
-after_stamp next (Read instant stamp) = next stamp.reading.label
-after_stamp next (NotRead why) = refusal_text why
+abbrev pub after_stamp : (Label → List ℕ) → Result (ℤ × Stamp) Refusal → List ℕ
+after_stamp next (Ok (instant, stamp)) = next stamp.reading.label
+after_stamp next (Err why) = refusal_text why
 
-abbrev pub after_count : (ℕ → List ℕ) → CountAnswer → List ℕ
-after_count next (Count n) = next n
-after_count next (NoCount why) = refusal_text why
+abbrev pub after_count : (ℕ → List ℕ) → Result ℕ Refusal → List ℕ
+after_count next (Ok n) = next n
+after_count next (Err why) = refusal_text why
 
 unfoldable pub from_count : Table → Label → List ℕ → List ℕ
 from_count t l third = after_count (λ n. header ++ rows_from t n l) (count_line third)
@@ -105,8 +92,13 @@ from_stamp t second third = after_stamp (λ l. from_count t l third) (stamp_line
 
 unfoldable pub from_block : List ℕ → List ℕ → List ℕ → List ℕ
 from_block first second third =
-    after_block (λ t. from_stamp t second third) (block_line first).table (block_line first).answer
+    after_block (λ t. from_stamp t second third) (block_line first)
 
 -- what `ticks` prints for an input
 unfoldable pub listed : List ℕ → List ℕ
 listed s = from_block (line_of s 0) (line_of s 1) (line_of s 2)
+
+-- what is printed for what the three lines ask for, or for the refusal of the first bad one
+abbrev pub shown : Result (Table × Label × ℕ) Refusal → List ℕ
+shown (Ok (t, l, n)) = header ++ rows_from t n l
+shown (Err why) = refusal_text why

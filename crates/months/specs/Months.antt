@@ -21,7 +21,3 @@ month_length m = get_or (lengths (leap_year (m / 12))) (m % 12) 0
 unfoldable pub days_before : ℕ → ℕ
 days_before zero = 0
 days_before (suc m) = days_before m + month_length m
-
--- entry k of a table of months that stands in groups of four rows, each of four years
-unfoldable pub entry_of : List (List (List ℕ)) → ℕ → ℕ
-entry_of t k = get_or (get_or (get_or t (k / 192) []) (k / 48 % 4) []) (k % 48) 0

@@ -28,10 +28,10 @@ pub extern "C" fn mundreff_bulletin_c(table: &mut [u32; 130]) -> u32
 }
 
 #[unsafe(no_mangle)]
-pub extern "C" fn mundreff_read_block<'a>(
+pub extern "C" fn mundreff_read_block(
     block: &[u8],
-    place: &'a mut usize,
-    table: &'a mut [u32; 130],
+    place: &mut usize,
+    table: &mut [u32; 130],
 ) -> u32
     ensures { (result, place.new, table.new) ≡ table_numbers (read_block block.now) }
 {
@@ -51,10 +51,10 @@ pub extern "C" fn mundreff_write_block(
 }
 
 #[unsafe(no_mangle)]
-pub extern "C" fn mundreff_read_new_block<'a>(
+pub extern "C" fn mundreff_read_new_block(
     block: &[u8],
-    place: &'a mut usize,
-    table: &'a mut [u32; 130],
+    place: &mut usize,
+    table: &mut [u32; 130],
 ) -> u32
     ensures { (result, place.new, table.new) ≡ table_numbers (read_new_block block.now) }
 {
@@ -74,12 +74,12 @@ pub extern "C" fn mundreff_write_new_block(
 }
 
 #[unsafe(no_mangle)]
-pub extern "C" fn mundreff_renew<'a>(
+pub extern "C" fn mundreff_renew(
     block: &[u8],
     vouched: u32,
     out: &mut [u8],
-    place: &'a mut usize,
-    length: &'a mut usize,
+    place: &mut usize,
+    length: &mut usize,
 ) -> u32
     ensures length_after { (result, place.new, length.new) ≡ move_results (renew block.now vouched out.old) }
     ensures out_after { out.new ≡ renew_after block.now vouched out.old }
@@ -88,11 +88,11 @@ pub extern "C" fn mundreff_renew<'a>(
 }
 
 #[unsafe(no_mangle)]
-pub extern "C" fn mundreff_revert<'a>(
+pub extern "C" fn mundreff_revert(
     block: &[u8],
     out: &mut [u8],
-    place: &'a mut usize,
-    length: &'a mut usize,
+    place: &mut usize,
+    length: &mut usize,
 ) -> u32
     ensures length_after { (result, place.new, length.new) ≡ move_results (revert block.now out.old) }
     ensures out_after { out.new ≡ revert_after block.now out.old }
@@ -101,10 +101,10 @@ pub extern "C" fn mundreff_revert<'a>(
 }
 
 #[unsafe(no_mangle)]
-pub extern "C" fn mundreff_read_kernel<'a>(
+pub extern "C" fn mundreff_read_kernel(
     file: &[u8],
-    place: &'a mut usize,
-    table: &'a mut [u32; 130],
+    place: &mut usize,
+    table: &mut [u32; 130],
 ) -> u32
     ensures { (result, place.new, table.new) ≡ table_numbers (read_kernel file.now) }
 {
@@ -124,11 +124,7 @@ pub extern "C" fn mundreff_write_kernel(
 }
 
 #[unsafe(no_mangle)]
-pub extern "C" fn mundreff_read_cards<'a>(
-    file: &[u8],
-    place: &'a mut usize,
-    table: &'a mut [u32; 130],
-) -> u32
+pub extern "C" fn mundreff_read_cards(file: &[u8], place: &mut usize, table: &mut [u32; 130]) -> u32
     ensures { (result, place.new, table.new) ≡ table_numbers (read_cards file.now) }
 {
     mundreff::mundreff_read_cards(file, place, table)
@@ -147,11 +143,11 @@ pub extern "C" fn mundreff_write_cards(
 }
 
 #[unsafe(no_mangle)]
-pub extern "C" fn mundreff_instant_of<'a>(
+pub extern "C" fn mundreff_instant_of(
     table: &[u32; 130],
     stamp: &[u32; 8],
-    instant: &'a mut i64,
-    marks: &'a mut u32,
+    instant: &mut i64,
+    marks: &mut u32,
 ) -> u32
     ensures { (result, instant.new, marks.new) ≡ instant_with_marks (instant_of_marked (table_from table.now) (scale_from stamp.now) (reading_from stamp.now)) }
 {
@@ -159,12 +155,12 @@ pub extern "C" fn mundreff_instant_of<'a>(
 }
 
 #[unsafe(no_mangle)]
-pub extern "C" fn mundreff_stamp_of<'a>(
+pub extern "C" fn mundreff_stamp_of(
     table: &[u32; 130],
     instant: i64,
     scale: u32,
-    stamp: &'a mut [u32; 8],
-    marks: &'a mut u32,
+    stamp: &mut [u32; 8],
+    marks: &mut u32,
 ) -> u32
     ensures { (result, stamp.new, marks.new) ≡ stamp_with_marks (stamp_of_marked (table_from table.now) instant scale) }
 {
@@ -172,13 +168,13 @@ pub extern "C" fn mundreff_stamp_of<'a>(
 }
 
 #[unsafe(no_mangle)]
-pub extern "C" fn mundreff_read_text<'a>(
+pub extern "C" fn mundreff_read_text(
     table: &[u32; 130],
     scale: u32,
     text: &[u8],
-    instant: &'a mut i64,
-    stamp: &'a mut [u32; 8],
-    marks: &'a mut u32,
+    instant: &mut i64,
+    stamp: &mut [u32; 8],
+    marks: &mut u32,
 ) -> u32
     ensures { (result, instant.new, stamp.new, marks.new) ≡ text_with_marks (read_text_marked (table_from table.now) scale text.now) }
 {
@@ -186,15 +182,15 @@ pub extern "C" fn mundreff_read_text<'a>(
 }
 
 #[unsafe(no_mangle)]
-pub extern "C" fn mundreff_write_text<'a>(
+pub extern "C" fn mundreff_write_text(
     table: &[u32; 130],
     instant: i64,
     picture: u32,
     scale: u32,
     digits: u32,
     out: &mut [u8],
-    length: &'a mut usize,
-    marks: &'a mut u32,
+    length: &mut usize,
+    marks: &mut u32,
 ) -> u32
     ensures marks_after { (result, length.new, marks.new) ≡ length_with_marks (write_text_marked (table_from table.now) instant picture scale digits out.old) }
     ensures out_after { out.new ≡ write_text_after (table_from table.now) instant picture scale digits out.old }
@@ -203,13 +199,13 @@ pub extern "C" fn mundreff_write_text<'a>(
 }
 
 #[unsafe(no_mangle)]
-pub extern "C" fn mundreff_write_julian<'a>(
+pub extern "C" fn mundreff_write_julian(
     table: &[u32; 130],
     instant: i64,
     scale: u32,
-    midnight: &'a mut f64,
-    fraction: &'a mut f64,
-    marks: &'a mut u32,
+    midnight: &mut f64,
+    fraction: &mut f64,
+    marks: &mut u32,
 ) -> u32
     ensures { (result, midnight.new, fraction.new, marks.new) ≡ pair_with_marks (write_julian_marked (table_from table.now) instant scale) }
 {
@@ -217,13 +213,13 @@ pub extern "C" fn mundreff_write_julian<'a>(
 }
 
 #[unsafe(no_mangle)]
-pub extern "C" fn mundreff_read_julian<'a>(
+pub extern "C" fn mundreff_read_julian(
     table: &[u32; 130],
     scale: u32,
     midnight: f64,
     fraction: f64,
-    instant: &'a mut i64,
-    marks: &'a mut u32,
+    instant: &mut i64,
+    marks: &mut u32,
 ) -> u32
     ensures { (result, instant.new, marks.new) ≡ instant_with_marks (read_julian_marked (table_from table.now) scale (pair midnight fraction)) }
 {
@@ -231,21 +227,17 @@ pub extern "C" fn mundreff_read_julian<'a>(
 }
 
 #[unsafe(no_mangle)]
-pub extern "C" fn mundreff_start<'a>(
-    table: &[u32; 130],
-    label: &'a mut [u32; 6],
-    marks: &'a mut u32,
-) -> u32
+pub extern "C" fn mundreff_start(table: &[u32; 130], label: &mut [u32; 6], marks: &mut u32) -> u32
     ensures { (result, label.new, marks.new) ≡ label_with_marks (start_marked (table_from table.now)) }
 {
     mundreff::mundreff_start(table, label, marks)
 }
 
 #[unsafe(no_mangle)]
-pub extern "C" fn mundreff_tick_in_place<'a>(
+pub extern "C" fn mundreff_tick_in_place(
     table: &[u32; 130],
-    label: &'a mut [u32; 6],
-    marks: &'a mut u32,
+    label: &mut [u32; 6],
+    marks: &mut u32,
 ) -> u32
     ensures { (result, label.new, marks.new) ≡ label_with_marks (tick_marked (table_from table.now) (label_from 0 label.old)) }
 {

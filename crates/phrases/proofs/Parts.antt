@@ -1,14 +1,16 @@
 -- Bytes that are the same, the first place of a word, and what was given as it is shown.
 -- Assumes nothing.
-use mathlib.Core.Path.{◌≡◌, refl, sym, ap, ◌∙◌}
-use mathlib.Core.Bool.{Bool, true, false, cond}
+use mathlib.Core.Path.{◌≡◌, refl, sym, ap, ap₂, ◌∙◌}
+use mathlib.Core.Bool.{Bool, true, false, cond, ◌&&◌}
 use mathlib.Core.List.{List, [], ◌∷◌, ◌++◌}
-use Prim.Native.Nat.{ℕ, suc, ◌+◌, ◌-◌, ◌≤◌, ◌<◌, min}
+use Prim.Native.Nat.{ℕ, suc, ◌+◌, ◌-◌, ◌≤◌, ◌<◌}
 use native.Mathlib.Omega.{arith}
 use native.Mathlib.Numerals.{add-one}
 use lib.ListN.{length, take, drop, get_or, length-drop, drop_of_length-le}
 use lib.Seq.{drop-cons, drop-length, take-suc, take_all}
-use Rattle.laws.proofs.Placed.{take_min}
+use Rattle.std.proofs.Common.{nat_eq}
+use Rattle.std.proofs.lemmas.Bool.Decides.{nat_tests}
+use Rattle.std.specs.Cmp.Lexicographic.{pointwise}
 use Rattle.digits.specs.Bytes.{same_bytes}
 use Rattle.digits.proofs.Bytes.{same_is}
 use Rattle.phrases.specs.Parts.{begins_with, up_to, behind, shown_byte, quoted}
@@ -18,12 +20,15 @@ use Rattle.phrases.specs.Parts.{begins_with, up_to, behind, shown_byte, quoted}
 pub same_told : (s w : List ℕ) {r b : Bool} → ((r ≡ true → s ≡ w) × (s ≡ w → r ≡ true)) → r ≡ b → same_bytes s w ≡ b
 same_told s w {r} e q = sym (same_is r s w e.0 e.1) ∙ q
 
-pub begins_is : (r : Bool) (word s : List ℕ) {k : ℕ} → k ≡ min (length word) (length s) → (r ≡ true → take k s ≡ word) → (take k s ≡ word → r ≡ true) → r ≡ begins_with word s
-unfolding begins_with
-begins_is r word s {k} n f g =
-    let m : k ≡ min (length s) (length word) = omega arith in
-    let e : take k s ≡ take (length word) s = ap (λ (j : ℕ). take j s) m ∙ take_min (length word) s in
-    same_is r (take k s) word f g ∙ ap (λ (x : List ℕ). same_bytes x word) e
+either_way : (a b : ℕ) → nat_eq b a ≡ nat_eq a b
+either_way a b = grind (arith, nat_tests)
+
+-- byte by byte, as std compares
+pub same_points : (s w : List ℕ) → pointwise nat_eq w s ≡ same_bytes s w
+same_points [] [] = refl
+same_points [] (b ∷ w) = refl
+same_points (a ∷ s) [] = refl
+same_points (a ∷ s) (b ∷ w) = ap₂ ◌&&◌ (either_way a b) (same_points s w)
 
 -- ---- the first place of a word
 

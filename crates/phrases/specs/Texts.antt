@@ -5,6 +5,8 @@ use Rattle.std.specs.Prelude.{ℕ, List, [], ◌∷◌, ◌++◌}
 use Rattle.digits.specs.Bytes.{ascii}
 use Rattle.digits.specs.Decimals.{decimal_text}
 use Rattle.lines.specs.Words.{line_of}
+use Rattle.phrases.specs.declared.Wrong.{Wrong}
+use Rattle.phrases.specs.declared.Wrong.TheVariants.{LongLine, NoSeconds, NoName, NoMonth, NoNumber, NoHex, NoFile, LongFile}
 use Rattle.phrases.specs.Parts.{quoted}
 
 -- a line and those behind it
@@ -70,6 +72,17 @@ no_file = 22
 
 abbrev pub long_file : ℕ
 long_file = 23
+
+-- the sentence for what a request got wrong
+abbrev pub sentence : Wrong → ℕ
+sentence LongLine = long_line
+sentence NoSeconds = no_seconds
+sentence NoName = no_name
+sentence NoMonth = no_month
+sentence NoNumber = no_number
+sentence NoHex = no_hex
+sentence NoFile = no_file
+sentence LongFile = long_file
 
 -- what to do
 abbrev pub advice : List ℕ

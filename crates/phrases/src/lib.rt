@@ -5,18 +5,51 @@
 ghost use Rattle.std.specs.Prelude.{◌≡◌, ◌≤◌, length};
 ghost use Rattle.digits.specs.Decimals.{decimal_text, signed_text};
 ghost use Rattle.lines.specs.Words.{line_of};
+ghost use Rattle.answer.specs.Refusals.{number};
 ghost use Rattle.phrases.specs.Puts.{Puts};
 ghost use Rattle.phrases.specs.Parts.{begins_with, up_to, shown_byte, quoted};
 ghost use Rattle.phrases.specs.Replies.{refusing_as, refusal, Says};
-ghost use Rattle.phrases.specs.Texts.{names as Texts·names, sentences as Texts·sentences, advice as Texts·advice, months as Texts·months, help as Texts·help, named_text, refusal_text, why_text};
+ghost use Rattle.phrases.specs.Texts.{months, help, sentence, named_text, refusal_text, why_text};
 
 use answer::Refusal;
 
 // Where the next text goes, and whether what was said is good, which a refusal is not.
-#[derive(Clone, Copy)]
+// No Result: a refusal is said too, and the next text goes behind it.
+#[derive(Clone, Copy, Debug, PartialEq, Eq)]
 pub struct Said {
     pub at: usize,
     pub good: bool,
+}
+
+// What only a request of a desk can get wrong; its sentence stands behind those of the refusals.
+#[derive(Clone, Copy, Debug, PartialEq, Eq)]
+pub enum Wrong {
+    LongLine,
+    NoSeconds,
+    NoName,
+    NoMonth,
+    NoNumber,
+    NoHex,
+    NoFile,
+    LongFile,
+}
+
+// The line of its sentence.
+impl From<Wrong> for u32 {
+    ghost from_gives = { λ wrong n. n ≡ sentence wrong };
+
+    fn from(wrong: Wrong) -> u32 {
+        match wrong {
+            Wrong::LongLine => 16,
+            Wrong::NoSeconds => 17,
+            Wrong::NoName => 18,
+            Wrong::NoMonth => 19,
+            Wrong::NoNumber => 20,
+            Wrong::NoHex => 21,
+            Wrong::NoFile => 22,
+            Wrong::LongFile => 23,
+        }
+    }
 }
 
 const NAMES: [u8; 89] =
@@ -37,11 +70,12 @@ const HELP: [u8; 444] =
 // ---- texts
 
 // Puts a text at `at`, as much of it as there is room for, and gives where the next one goes.
+// The place stays beside the lent buffer: the statements of five crates speak of both (`Puts`).
 pub fn put(out: &mut [u8], at: usize, text: &[u8]) -> usize
     ensures { Puts out.old at text.now result out.new }
 {
-    let room = out.len() - lines::front(out, at);
-    let k = lines::front(text, room);
+    let room = out.len().saturating_sub(at);
+    let k = text.len().min(room);
     digits::append(out, at, &text[..k])
 }
 
@@ -66,16 +100,11 @@ pub fn put_signed(out: &mut [u8], at: usize, z: i64) -> usize
 fn shown_byte(b: u8) -> u8
     ensures { result ≡ shown_byte b }
 {
-    if b < 32 {
-        return 63;
+    match b {
+        b'"' | b',' => b'?',
+        b' '..=b'~' => b,
+        _ => b'?',
     }
-    if b == 34 {
-        return 63;
-    }
-    if b == 44 {
-        return 63;
-    }
-    if b <= 126 { b } else { 63 }
 }
 
 // Puts what was given, as it is shown.
@@ -83,11 +112,8 @@ pub fn put_quoted(out: &mut [u8], at: usize, given: &[u8]) -> usize
     ensures { Puts out.old at (quoted given.now) result out.new }
 {
     let mut next = put(out, at, b"");
-    let mut i = 0;
-    while i < given.len() {
-        let one = [shown_byte(given[i])];
-        next = put(out, next, &one);
-        i += 1;
+    for b in given {
+        next = put(out, next, &[shown_byte(*b)]);
     }
     next
 }
@@ -97,7 +123,7 @@ fn put_line(out: &mut [u8], at: usize, text: &[u8], k: usize) -> usize
     ensures { Puts out.old at (line_of text.now k) result out.new }
 {
     let from = lines::line_start(text, k);
-    let end = lines::until(text, from, 10);
+    let end = lines::until(text, from, b'\n');
     put(out, at, &text[from..end])
 }
 
@@ -106,67 +132,32 @@ fn put_line(out: &mut [u8], at: usize, text: &[u8], k: usize) -> usize
 pub fn begins_with(s: &[u8], word: &[u8]) -> bool
     ensures { result ≡ begins_with word.now s.now }
 {
-    let k = lines::front(s, word.len());
-    check::same(&s[..k], word)
+    s.starts_with(word)
 }
 
 // Where a word stands first; the end where it stands nowhere.
 pub fn up_to(s: &[u8], word: &[u8]) -> usize
     ensures { (result ≡ length (up_to word.now s.now)) × (result ≤ length s.now) }
 {
-    let mut i = 0;
-    while i < s.len() {
+    for i in 0..s.len() {
         if begins_with(&s[i..], word) {
             return i;
         }
-        i += 1;
     }
-    i
+    s.len()
 }
 
 // ---- the refusals in words
-
-fn names() -> [u8; 89]
-    ensures { result ≡ Texts·names }
-{
-    NAMES
-}
-
-fn sentences() -> [u8; 1478]
-    ensures { result ≡ Texts·sentences }
-{
-    SENTENCES
-}
-
-fn advice() -> [u8; 718]
-    ensures { result ≡ Texts·advice }
-{
-    ADVICE
-}
-
-fn months() -> [u8; 88]
-    ensures { result ≡ Texts·months }
-{
-    MONTHS
-}
-
-fn help() -> [u8; 444]
-    ensures { result ≡ Texts·help }
-{
-    HELP
-}
 
 // Puts a name of a refusal and a sentence.
 fn put_named(out: &mut [u8], at: usize, number: u32, sentence: u32) -> usize
     ensures { Puts out.old at (named_text number sentence) result out.new }
 {
-    let names = names();
-    let sentences = sentences();
     let a = put_unsigned(out, at, number as u64);
     let b = put(out, a, b" ");
-    let c = put_line(out, b, &names, number as usize);
+    let c = put_line(out, b, &NAMES, number as usize);
     let d = put(out, c, b": ");
-    put_line(out, d, &sentences, sentence as usize)
+    put_line(out, d, &SENTENCES, sentence as usize)
 }
 
 // Puts a refusal of this number, with a sentence and what was given.
@@ -189,11 +180,18 @@ pub fn refuse_as(out: &mut [u8], at: usize, number: u32, sentence: u32, given: &
     }
 }
 
+// Says that a request is refused, as no request, for what is wrong with it.
+pub fn refuse_request(out: &mut [u8], at: usize, wrong: Wrong, given: &[u8]) -> Said
+    ensures { Says out.old at (refusing_as (number Refusal.Ask) (sentence wrong) given.now) result out.new }
+{
+    refuse_as(out, at, u32::from(Refusal::Ask), u32::from(wrong), given)
+}
+
 // Says a refusal with the sentence of its number.
 pub fn refuse(out: &mut [u8], at: usize, why: Refusal, given: &[u8]) -> Said
     ensures { Says out.old at (refusal why given.now) result out.new }
 {
-    let n = answer::number_of(why);
+    let n = u32::from(why);
     refuse_as(out, at, n, n, given)
 }
 
@@ -201,24 +199,21 @@ pub fn refuse(out: &mut [u8], at: usize, why: Refusal, given: &[u8]) -> Said
 pub fn put_why(out: &mut [u8], at: usize, number: u32) -> usize
     ensures { Puts out.old at (why_text number) result out.new }
 {
-    let advice = advice();
     let a = put_named(out, at, number, number);
     let b = put(out, a, b" What to do: ");
-    put_line(out, b, &advice, number as usize)
+    put_line(out, b, &ADVICE, number as usize)
 }
 
 // Puts the name of a month from 1 to 12.
 pub fn put_month(out: &mut [u8], at: usize, month: u32) -> usize
-    ensures { Puts out.old at (line_of Texts·months month) result out.new }
+    ensures { Puts out.old at (line_of months month) result out.new }
 {
-    let months = months();
-    put_line(out, at, &months, month as usize)
+    put_line(out, at, &MONTHS, month as usize)
 }
 
 // Puts the requests that a desk knows.
 pub fn put_help(out: &mut [u8], at: usize) -> usize
-    ensures { Puts out.old at Texts·help result out.new }
+    ensures { Puts out.old at help result out.new }
 {
-    let help = help();
-    put(out, at, &help)
+    put(out, at, &HELP)
 }

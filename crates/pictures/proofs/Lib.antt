@@ -1,6 +1,6 @@
 pub mod Spelling
 pub mod Fraction
-pub mod Line
+pub mod Filled
 pub mod Patterns
 pub mod Promise
 pub mod Sorted

@@ -1,21 +1,19 @@
 -- Patterns: byte by byte, from the front, and at a place.
 -- Assumes nothing.
 use mathlib.Core.Path.{◌≡◌, refl, sym, ap, ap₂, subst, ◌∙◌}
-use mathlib.Core.Bool.{Bool, true, false, ◌&&◌}
+use mathlib.Core.Bool.{Bool, true, false, cond, ◌&&◌}
 use mathlib.Core.Logic.{◌⊎◌, inl, inr, ⊎_elim}
-use mathlib.Core.List.{List, [], ◌∷◌, ◌++◌}
+use mathlib.Core.List.{List, [], ◌∷◌}
 use Prim.Native.Nat.{ℕ, zero, suc, ◌+◌, ◌≤◌, ◌<◌}
 use native.Mathlib.Nat.{le_of_suc-le-suc, not-suc-le-zero}
-use native.Mathlib.Numerals.{add-one}
 use native.Mathlib.Omega.{arith}
 use borrow.Author.Tests.{eqb-true, leb-true}
 use lib.Dec.{eqb, leb}
-use lib.ListN.{length, take, drop, get_or, drop_of_length-le}
-use lib.Seq.{drop-cons, take-length}
-use Rattle.laws.proofs.Branches.{and_no}
+use lib.ListN.{length, get_or}
 use Rattle.laws.proofs.Cases.{both, and_l, and_r, join, one_of}
 use Rattle.digits.specs.Decimals.{digit_value, all_digits}
-use Rattle.pictures.specs.Parts.{Digits, Numbers, Fills}
+use Rattle.std.specs.Prelude.{Some, None}
+use Rattle.pictures.specs.Parts.{Digits, Numbers}
 use Rattle.pictures.specs.declared.Date.{Date}
 use Rattle.pictures.specs.declared.Fields.{Fields}
 use Rattle.pictures.specs.Reading.{as_shown, like, in_full, right_length, has_picture, fields_in}
@@ -33,14 +31,15 @@ and_false true = refl
 and_false false = refl
 
 -- one byte more
-pub like_step : (cs s : List ℕ) (fine : Bool) (i : ℕ) → i < length cs → i < length s
-    → ((fine && as_shown (get_or cs i 0) (get_or s i 0)) && like (drop (i + 1) cs) (drop (i + 1) s)) ≡ (fine && like (drop i cs) (drop i s))
+pub like_more : (fine : Bool) {c b : ℕ} {cs s x y : List ℕ} {r : Bool} → x ≡ c ∷ cs → y ≡ b ∷ s → (fine && like x y) ≡ r → ((fine && as_shown c b) && like cs s) ≡ r
 unfolding like
-like_step cs s fine i h g = rw (add-one, drop-cons cs i 0, drop-cons s i 0) (and_assoc fine _ _)
+like_more fine {c} {b} {cs} {s} p q e = and_assoc fine (as_shown c b) (like cs s) ∙ rw (p, q) at e
 
-pub like_end : (cs s : List ℕ) (fine : Bool) (i : ℕ) → length cs ≤ i → length s ≤ i → (fine && like (drop i cs) (drop i s)) ≡ fine
+pub like_none : (fine : Bool) (x y : List ℕ) {r : Bool} → length x ≡ 0 → length y ≡ 0 → (fine && like x y) ≡ r → fine ≡ r
 unfolding like
-like_end cs s fine i h g = rw (drop_of_length-le cs h, drop_of_length-le s g) (and_true fine)
+like_none fine [] [] p q e = sym (and_true fine) ∙ e
+like_none fine [] (b ∷ s) p q e = absurd (omega arith)
+like_none fine (c ∷ cs) y p q e = absurd (omega arith)
 
 pub like_length : (cs s : List ℕ) → like cs s ≡ true → length s ≡ length cs
 unfolding like
@@ -106,10 +105,6 @@ counts_none (c ∷ cs) e (suc k) = counts_none cs (and_r (eqb (digit_value c) 0)
 
 -- ---- the text in full
 
--- as a copy of the text leaves the pattern
-pub is_filled : (cs s : List ℕ) {t : List ℕ} → t ≡ take (length s) s ++ drop (length s) cs → t ≡ in_full cs s
-is_filled cs s e = e ∙ ap (λ (l : List ℕ). l ++ drop (length s) cs) (take-length s)
-
 -- how long a text with a picture is
 pub lengths : (n size : ℕ) → right_length n size ≡ true → (size ≡ n) ⊎ ((n + 2 ≤ size) × (size ≤ n + 7))
 lengths n size e =
@@ -119,17 +114,22 @@ lengths n size e =
 pub length_most : (n size : ℕ) → right_length n size ≡ true → size ≤ n + 7
 length_most n size e = ⊎_elim (λ p. omega arith) (λ p. omega arith) (lengths n size e)
 
--- one that has another length has no picture
-pub not_long : (cs s t : List ℕ) (n : ℕ) → right_length n (length s) ≡ false → Fills cs n s t false
-not_long cs s t n e = record { has = and_no _ e; full = λ h. let z : false ≡ true = sym e ∙ and_l (right_length n (length s)) _ h in cc }
+-- what is told where a test holds, and where it does not
+found : {A : Type 0} (b : Bool) {x y : A} → Some y ≡ cond b (Some x) None → (b ≡ true) × (y ≡ x)
+found true e = (refl, cc)
+found false e = cc
+
+pub not_found : {A : Type 0} (b : Bool) (x : A) → None ≡ cond b (Some x) None → b ≡ false
+not_found true x e = cc
+not_found false x e = refl
 
 -- a text that fills a pattern: it has the picture, and the pattern's bytes are then the text in full
-module _ (cs : List ℕ) (n : ℕ) {s t : List ℕ} {r : Bool} (f : Fills cs n s t r) (e : r ≡ true) where
+module _ (cs : List ℕ) (n : ℕ) (s : List ℕ) {t : List ℕ} (f : Some t ≡ cond (has_picture cs n s) (Some (in_full cs s)) None) where
   pub has_it : has_picture cs n s ≡ true
-  has_it = sym f.has ∙ e
+  has_it = (found (has_picture cs n s) f).0
 
   pub is_full : t ≡ in_full cs s
-  is_full = f.full has_it
+  is_full = (found (has_picture cs n s) f).1
 
   pub is_alike : like cs t ≡ true
   is_alike = ap (like cs) is_full ∙ and_r (right_length n (length s)) _ has_it

@@ -11,6 +11,7 @@ use borrow.Author.Tests.{ne_eqb, eqb-true, le-leb, leb-true}
 use lib.Dec.{T, leb, ltb, lit<}
 use lib.ListN.{length, take, drop, get_or, length-append}
 use lib.Seq.{take_at, take-append-add, drop-drop}
+use Rattle.std.specs.Prelude.{Option, Some, None}
 use Rattle.laws.proofs.Cases.{and_l, and_r, join}
 use Rattle.laws.proofs.Placed.{over_old}
 use Rattle.digits.specs.Bytes.{bytes_at}
@@ -20,8 +21,6 @@ use Rattle.digits.proofs.Months.{named_is, named_back}
 use Rattle.pictures.specs.declared.Date.{Date}
 use Rattle.pictures.specs.declared.Date.TheVariants.{Numbered, OfYear, Named}
 use Rattle.pictures.specs.declared.Fields.{Fields}
-use Rattle.pictures.specs.declared.FieldsAnswer.{FieldsAnswer}
-use Rattle.pictures.specs.declared.FieldsAnswer.TheVariants.{Picture, NoPicture}
 use Rattle.pictures.specs.Parts.{Numbers}
 use Rattle.pictures.specs.Pictures.{date_text, clock_text, fraction_text, picture_text, DateFits, WellFormed}
 use Rattle.pictures.specs.Reading.{as_shown, like, in_full, right_length, has_picture, numbered_pattern, of_year_pattern, named_pattern, month_in, fields_in, numbered_in, of_year_in, named_in, or_else, read_numbered, read_of_year, read_named, read_fields}
@@ -245,42 +244,42 @@ module _ (f : Fields) (w : WellFormed f) (cs : List ℕ) (n : ℕ) (e : before_p
 not_has : (cs s : List ℕ) (n k : ℕ) → T (ltb k (length cs)) → as_shown (get_or cs k 0) (get_or (in_full cs s) k 0) ≡ false → has_picture cs n s ≡ false
 not_has cs s n k l e = rw (unlike cs (in_full cs s) k (lit< l) e) (and_false (right_length n (length s)))
 
-read_back : (y h m s k u : ℕ) (d : Date) → let f = of y h m s k u d in WellFormed f → read_fields (picture_text f) ≡ Picture f
+read_back : (y h m s k u : ℕ) (d : Date) → let f = of y h m s k u d in WellFormed f → read_fields (picture_text f) ≡ Some f
 unfolding read_numbered read_of_year read_named picture_text
 read_back y h m s k u (Numbered a b) w =
     let f = of y h m s k u (Numbered a b) in
     let c = numbered_pattern in
-    rw (has f w c 19 refl refl (numbered_like y h m s k u a b)) (ap Picture (ap₂ numbered_in (fills f w c 19 refl refl) (digits_there f w c 19 refl refl) ∙ numbered_back y h m s k u a b w))
+    rw (has f w c 19 refl refl (numbered_like y h m s k u a b)) (ap Some (ap₂ numbered_in (fills f w c 19 refl refl) (digits_there f w c 19 refl refl) ∙ numbered_back y h m s k u a b w))
 read_back y h m s k u (OfYear b) w =
     let f = of y h m s k u (OfYear b) in
     let c = of_year_pattern in
     rw (not_has numbered_pattern (picture_text f) 19 7 tt (ne_eqb 45 (48 + b / 1 % 10) (λ e. omega arith)), has f w c 17 refl refl (of_year_like y h m s k u b))
-    (ap Picture (ap₂ of_year_in (fills f w c 17 refl refl) (digits_there f w c 17 refl refl) ∙ of_year_back y h m s k u b w))
+    (ap Some (ap₂ of_year_in (fills f w c 17 refl refl) (digits_there f w c 17 refl refl) ∙ of_year_back y h m s k u b w))
 read_back y h m s k u (Named a b) w =
     let f = of y h m s k u (Named a b) in
     let c = named_pattern in
     let month : leb 1 (month_in (in_full c (picture_text f))) ≡ true = le-leb 1 (month_in (in_full c (picture_text f))) (omega (arith, ap month_in (fills f w c 20 refl refl), month_there y h m s k u a b w, w.date.0)) in
     rw (not_has numbered_pattern (picture_text f) 19 4 tt refl, not_has of_year_pattern (picture_text f) 17 4 tt refl, has f w c 20 refl refl (named_like y h m s k u a b), month)
-    (ap Picture (ap₂ named_in (fills f w c 20 refl refl) (digits_there f w c 20 refl refl) ∙ named_again y h m s k u a b w))
+    (ap Some (ap₂ named_in (fills f w c 20 refl refl) (digits_there f w c 20 refl refl) ∙ named_again y h m s k u a b w))
 
-pub back : (f : Fields) → WellFormed f → read_fields (picture_text f) ≡ Picture f
+pub back : (f : Fields) → WellFormed f → read_fields (picture_text f) ≡ Some f
 back f w = read_back f.year f.hour f.minute f.second f.digits f.micro f.date w
 
 -- ---- all of it
 
 -- what one picture's reader answers is right where it is right under its test
-under : (P : Fields → Type 0) (b : Bool) (g f : Fields) → (b ≡ true → P g) → cond b (Picture g) NoPicture ≡ Picture f → P f
+under : (P : Fields → Type 0) (b : Bool) (g f : Fields) → (b ≡ true → P g) → cond b (Some g) None ≡ Some f → P f
 under P true g f h e = let same : g ≡ f = cc in subst P same (h refl)
 under P false g f h e = let z : ◌≡◌ {A = ℕ} 0 1 = cc in absurd (omega arith)
 
-first : (P : Fields → Type 0) (a b : FieldsAnswer) (f : Fields) → (a ≡ Picture f → P f) → (b ≡ Picture f → P f) → or_else a b ≡ Picture f → P f
-first P (Picture g) b f p q e = p e
-first P NoPicture b f p q e = q e
+first : (P : Fields → Type 0) (a b : Option Fields) (f : Fields) → (a ≡ Some f → P f) → (b ≡ Some f → P f) → or_else a b ≡ Some f → P f
+first P (Some g) b f p q e = p e
+first P None b f p q e = q e
 
 abbrev Is : List ℕ → Fields → Type 0
 Is s f = WellFormed f × (s ≡ picture_text f)
 
-pub shown : (s : List ℕ) (f : Fields) → read_fields s ≡ Picture f → WellFormed f × (s ≡ picture_text f)
+pub shown : (s : List ℕ) (f : Fields) → read_fields s ≡ Some f → WellFormed f × (s ≡ picture_text f)
 unfolding read_numbered read_of_year read_named
 shown s f =
     first (Is s) (read_numbered s) (or_else (read_of_year s) (read_named s)) f
@@ -291,4 +290,4 @@ shown s f =
     (λ h. named_shown s (and_l _ (leb 1 (month_in (in_full named_pattern s))) h) (leb-true 1 _ (and_r (has_picture named_pattern 20 s) _ h)))))
 
 pub determined : Determined
-determined f g v w e = let h : Picture f ≡ Picture g = sym (back f v) ∙ ap read_fields e ∙ back g w in cc
+determined f g v w e = let h : Some f ≡ Some g = sym (back f v) ∙ ap read_fields e ∙ back g w in cc

@@ -1,10 +1,10 @@
 -- Digits in a text: a number in two parts, and digits that are those of the number which they spell.
 -- Assumes nothing.
 use mathlib.Core.Path.{◌≡◌, refl, sym, ap, ap₂, subst, ◌∙◌}
-use mathlib.Core.Bool.{true, ◌&&◌}
+use mathlib.Core.Bool.{true}
 use mathlib.Core.List.{List, [], ◌∷◌, ◌++◌}
 use Prim.Native.Nat.{ℕ, zero, suc, ◌+◌, ◌-◌, ◌*◌, ◌/◌, ◌%◌, ◌^◌, ◌≤◌, ◌<◌}
-use native.Mathlib.Nat.{zero-add, add-zero, suc-add, sub-zero, suc-sub-suc, add-mul, mul_assoc, add_assoc, pow-succ', one-le-pow, le_of_suc-le-suc, not-suc-le-zero, div-eq_of_lt, mul-add-div_right, add-mul-mod_self_right, zero-mod}
+use native.Mathlib.Nat.{zero-add, add-zero, suc-add, sub-zero, suc-sub-suc, add-mul, mul_assoc, add_assoc, pow-succ', one-le-pow, pow-le-pow_right, le_of_suc-le-suc, not-suc-le-zero, div-eq_of_lt, mul-add-div_right, add-mul-mod_self_right, zero-mod}
 use native.Mathlib.Omega.{arith}
 use borrow.Author.Tests.{le-leb}
 use lib.Dec.{lit<}
@@ -84,15 +84,9 @@ again (b ∷ l) a e =
 low_bits : (b : ℕ) → is_digit b ≡ true → b % 16 ≡ digit_value b
 low_bits b e = omega (arith, digit_range b e, value_digit b e)
 
-pub one_low : (s : List ℕ) (i : ℕ) → Digits s i 1 → get_or s i 0 % 16 ≡ number_at s i 1
+one_low : (s : List ℕ) (i : ℕ) → Digits s i 1 → get_or s i 0 % 16 ≡ number_at s i 1
 unfolding spelled all_digits
 one_low s i d = omega (arith, low_bits (get_or s i 0) (and_l _ true d.all))
-
-pub pair_low : (s : List ℕ) (i : ℕ) → Digits s i 2 → get_or s i 0 % 16 * 10 + get_or s (i + 1) 0 % 16 ≡ number_at s i 2
-unfolding spelled all_digits
-pair_low s i d =
-    let p = both (is_digit (get_or s i 0)) (is_digit (get_or s (i + 1) 0) && true) d.all in
-    omega (arith, low_bits (get_or s i 0) p.0, low_bits (get_or s (i + 1) 0) (and_l _ true p.1))
 
 digits_both : (s : List ℕ) (i w v : ℕ) → all_digits (bytes_at s i (w + v)) ≡ true → (all_digits (bytes_at s i w) ≡ true) × (all_digits (bytes_at s (i + w) v) ≡ true)
 unfolding all_digits
@@ -104,11 +98,22 @@ digits_both s i (suc w) v e =
     let j : i + 1 + w ≡ i + suc w = omega arith in
     (join p.0 r.0, subst (λ (k : ℕ). all_digits (bytes_at s k v) ≡ true) j r.1)
 
-pub digits_front : {s : List ℕ} {i : ℕ} (w v : ℕ) → Digits s i (w + v) → Digits s i w
+digits_front : {s : List ℕ} {i : ℕ} (w v : ℕ) → Digits s i (w + v) → Digits s i w
 digits_front {s} {i} w v d = record { inside = omega (arith, d.inside); all = (digits_both s i w v d.all).0 }
 
-pub digits_end : {s : List ℕ} {i : ℕ} (w v : ℕ) → Digits s i (w + v) → Digits s (i + w) v
+digits_end : {s : List ℕ} {i : ℕ} (w v : ℕ) → Digits s i (w + v) → Digits s (i + w) v
 digits_end {s} {i} w v d = record { inside = omega (arith, d.inside); all = (digits_both s i w v d.all).1 }
+
+-- one digit more
+pub one_more : {s : List ℕ} {i w : ℕ} → Digits s i w → (k : ℕ) → k < w → number_at s i k * 10 + get_or s (i + k) 0 % 16 ≡ number_at s i (k + 1)
+one_more {s} {i} {w} d k h =
+    let v = w - (k + 1) in
+    let e : w ≡ k + (1 + v) = omega arith in
+    let one = digits_front 1 v (digits_end k (1 + v) (subst (λ (j : ℕ). Digits s i j) e d)) in
+    omega (arith, number_join s i k 1, one_low s (i + k) one)
+
+pub number_few : (s : List ℕ) (i k : ℕ) → k ≤ 6 → number_at s i k < 1000000
+number_few s i k h = let p : 10 ^ k ≤ 10 ^ 6 = pow-le-pow_right (lit< tt) h in omega (arith, number_lt s i k)
 
 -- ---- zeros in place of digits that are not shown
 

@@ -1,15 +1,8 @@
 -- Facts that the contracts of private functions cite. A reader may skip this file.
 -- Assumes nothing.
-use Rattle.std.specs.Prelude.{◌≡◌, Bool, true, List, ℕ, ◌+◌, ◌≤◌, length, take}
+use Rattle.std.specs.Prelude.{◌≡◌, true, List, ℕ, ◌+◌, ◌≤◌, length}
 use Rattle.digits.specs.Bytes.{bytes_at}
 use Rattle.digits.specs.Decimals.{all_digits}
-use Rattle.pictures.specs.Reading.{in_full, has_picture}
-
--- an array of `size` bytes whose first `len` are the text
-pub record Holds (bytes : List ℕ) (len size : ℕ) (text : List ℕ) : Type 0 where
-  pub front : take len bytes ≡ text
-  pub inside : len ≤ size
-  pub whole : length bytes ≡ size
 
 -- w digits from place i on
 pub record Digits (s : List ℕ) (i w : ℕ) : Type 0 where
@@ -23,8 +16,3 @@ pub record Numbers (s : List ℕ) (at : ℕ) : Type 0 where
   pub minute : Digits s (at + 3) 2
   pub second : Digits s (at + 6) 2
   pub micro : Digits s (at + 9) 6
-
--- r says whether the text s has a pattern's picture; t is then the text with its fraction in full
-pub record Fills (pattern : List ℕ) (n : ℕ) (s t : List ℕ) (r : Bool) : Type 0 where
-  pub has : r ≡ has_picture pattern n s
-  pub full : has_picture pattern n s ≡ true → t ≡ in_full pattern s

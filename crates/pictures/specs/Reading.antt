@@ -1,7 +1,7 @@
 -- The reader's own steps, which need not be believed: `ReadExactly` of `text` says by `picture_text` alone which texts are read, and as what.
 -- Each picture is a pattern, with its six digits behind the point, and a text may leave out the fraction or end after any digit of it.
 -- Assumes nothing.
-use Rattle.std.specs.Prelude.{Bool, true, false, cond, ◌&&◌, ◌||◌, List, [], ◌∷◌, ℕ, ◌+◌, ◌-◌, eqb, leb, length}
+use Rattle.std.specs.Prelude.{Bool, true, false, cond, ◌&&◌, ◌||◌, List, [], ◌∷◌, ℕ, ◌+◌, ◌-◌, eqb, leb, length, Option, Some, None}
 use Prim.Native.Char.{code}
 use Rattle.laws.specs.Placed.{over}
 use Rattle.digits.specs.Bytes.{ascii, bytes_at}
@@ -10,8 +10,6 @@ use Rattle.digits.specs.Months.{month_named}
 use Rattle.pictures.specs.declared.Date.{Date}
 use Rattle.pictures.specs.declared.Date.TheVariants.{Numbered, OfYear, Named}
 use Rattle.pictures.specs.declared.Fields.{Fields}
-use Rattle.pictures.specs.declared.FieldsAnswer.{FieldsAnswer}
-use Rattle.pictures.specs.declared.FieldsAnswer.TheVariants.{Picture, NoPicture}
 
 -- in a pattern 0 stands for any digit, ? for any byte, every other byte for itself
 abbrev pub as_shown : ℕ → ℕ → Bool
@@ -71,19 +69,19 @@ abbrev pub named_in : List ℕ → ℕ → Fields
 named_in t digits = fields_in t 12 digits (Named (month_in t) (number_at t 9 2))
 
 -- `read_fields`: the picture that the text has, if it has one
-abbrev pub or_else : FieldsAnswer → FieldsAnswer → FieldsAnswer
-or_else (Picture f) other = Picture f
-or_else NoPicture other = other
+abbrev pub or_else : Option Fields → Option Fields → Option Fields
+or_else (Some f) other = Some f
+or_else None other = other
 
-unfoldable pub read_numbered : List ℕ → FieldsAnswer
-read_numbered s = cond (has_picture numbered_pattern 19 s) (Picture (numbered_in (in_full numbered_pattern s) (length s - 20))) NoPicture
+unfoldable pub read_numbered : List ℕ → Option Fields
+read_numbered s = cond (has_picture numbered_pattern 19 s) (Some (numbered_in (in_full numbered_pattern s) (length s - 20))) None
 
-unfoldable pub read_of_year : List ℕ → FieldsAnswer
-read_of_year s = cond (has_picture of_year_pattern 17 s) (Picture (of_year_in (in_full of_year_pattern s) (length s - 18))) NoPicture
+unfoldable pub read_of_year : List ℕ → Option Fields
+read_of_year s = cond (has_picture of_year_pattern 17 s) (Some (of_year_in (in_full of_year_pattern s) (length s - 18))) None
 
-unfoldable pub read_named : List ℕ → FieldsAnswer
+unfoldable pub read_named : List ℕ → Option Fields
 read_named s =
-    cond (has_picture named_pattern 20 s && leb 1 (month_in (in_full named_pattern s))) (Picture (named_in (in_full named_pattern s) (length s - 21))) NoPicture
+    cond (has_picture named_pattern 20 s && leb 1 (month_in (in_full named_pattern s))) (Some (named_in (in_full named_pattern s) (length s - 21))) None
 
-abbrev pub read_fields : List ℕ → FieldsAnswer
+abbrev pub read_fields : List ℕ → Option Fields
 read_fields s = or_else (read_numbered s) (or_else (read_of_year s) (read_named s))

@@ -5,6 +5,7 @@ use mathlib.Core.Bool.{true}
 use Prim.Native.Nat.{ℕ, ◌*◌}
 use native.Mathlib.Omega.{arith}
 use lib.IntN.{ℤ, pos, neg_ℤ, ◌+ℤ◌}
+use Rattle.std.specs.Prelude.{Ok, Err}
 use Rattle.laws.proofs.Cases.{join}
 use Rattle.laws.proofs.Difference.{up, down, sum_is, eq_from}
 use Rattle.answer.proofs.Orders.{none_refused}
@@ -17,7 +18,6 @@ use Rattle.labels.specs.Labels.{whole, label_tests}
 use Rattle.labels.specs.Seconds.{micro_of, axis_of, first_reading}
 use Rattle.labels.proofs.Years.{axis_is, first_micro}
 use Rattle.stamp.specs.declared.Scale.TheVariants.{Utc}
-use Rattle.stamp.specs.declared.InstantAnswer.TheVariants.{At, Refused}
 use Rattle.stamp.specs.Scales.{scale_tests, to_instant, instant_for}
 use Rattle.stamp.specs.Stamps.{instant_of, instant_results, stamp_results}
 use Rattle.stamp.specs.Promise.{GivesInstant}
@@ -41,9 +41,9 @@ module _ (t : Table) (ok : accepted t ≡ true) (n : ℕ) (l : Label) (e : Shows
   unfolding instant_of
   back =
       ap instant_results
-      (none_refused Refused (scale_tests t 0) _ (join refl (join ok refl))
-      ∙ none_refused Refused (label_tests (offset_at t) 60 (whole l)) _ ((all_tick t ok).shows_no_other n l e)
-      ∙ ap At instant_is)
+      (none_refused Err (scale_tests t 0) _ (join refl (join ok refl))
+      ∙ none_refused Err (label_tests (offset_at t) 60 (whole l)) _ ((all_tick t ok).shows_no_other n l e)
+      ∙ ap Ok instant_is)
 
 pub demand3 : Demand3
 demand3 t ok =

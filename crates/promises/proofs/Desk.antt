@@ -11,14 +11,13 @@ use lib.Dec.{ltb, leb}
 use lib.IntN.{ℤ, pos, ◌+ℤ◌, ◌-ℤ◌, ◌*ℤ◌}
 use lib.ListN.{length, drop}
 use lib.Signed.{lt_z, ◌≤ℤ◌, ◌<ℤ◌}
+use Rattle.std.specs.Prelude.{Option, Some, None, Result, Ok, Err}
 use Rattle.laws.proofs.Branches.{cond_yes, cond_rest}
 use Rattle.laws.proofs.Cases.{by_test, pick}
 use Rattle.laws.proofs.Difference.{up, down, sum_is, diff_is, eq_to, eq_from, lt_to, le_to, lt_z_true, lt_z_false}
 use Rattle.laws.proofs.Machine.{times_is}
 use Rattle.leap.specs.declared.Table.{Table}
-use Rattle.leap.specs.declared.TableAnswer.{TableAnswer}
-use Rattle.leap.specs.declared.TableAnswer.TheVariants.{Read, Refused}
-use Rattle.leap.specs.declared.TableRead.{TableRead}
+use Rattle.answer.specs.declared.Fault.{Fault}
 use Rattle.leap.specs.Leap.{vouched_to, accepted, offset_at}
 use Rattle.leap.specs.Readers.{no_table, table_results}
 use Rattle.labels.specs.declared.Reading.{Reading}
@@ -32,7 +31,6 @@ use Rattle.stamp.specs.Promise.{Reads}
 use Rattle.stamp.proofs.Scales.{instant_is}
 use Rattle.clock.specs.Promise.{first_label, admits, Shows}
 use Rattle.clock.proofs.Promise.{all_tick}
-use Rattle.text.specs.declared.TextAnswer.TheVariants.{Read as StampRead}
 use Rattle.text.specs.Text.{read_text, text_results}
 use Rattle.text.specs.Promise.{AcceptedAs, Names}
 use Rattle.text.proofs.Exactly.{read_exactly}
@@ -46,20 +44,16 @@ use Rattle.kernel.proofs.Promise.{kernels}
 use Rattle.cards.specs.Reading.{read_cards}
 use Rattle.cards.proofs.Promise.{cards}
 use Rattle.digits.specs.Bytes.{ascii}
-use Rattle.digits.specs.declared.Number.{Number}
-use Rattle.digits.specs.declared.Number.TheVariants.{Is, Bad}
 use Rattle.lines.specs.Words.{before}
 use Rattle.lines.specs.Pairs.{nibble, paired}
 use Rattle.phrases.specs.Parts.{begins_with}
 use Rattle.phrases.specs.Replies.{Reply, answering}
 use Rattle.seconds.specs.Seconds.{seconds_text}
-use Rattle.stampwords.specs.declared.Steps.TheVariants.{Count}
-use Rattle.stampwords.specs.declared.SpanAnswer.TheVariants.{Lasts}
 use Rattle.stampwords.specs.Stamps.{clock_of, stamp_read}
 use Rattle.stampwords.proofs.Stamps.{read_accepted}
 use Rattle.stampwords.specs.Spans.{steps_between, steps_in_order, steps_text, span_of, between_answer, between_reply, real_name, cell, sheet_row, pass_answer, pass_reply}
 use Rattle.stampwords.proofs.Spans.{span_of_two}
-use Rattle.tablewords.specs.Loading.{Load, taking, leaving, loaded_as, loaded_by, is_hex, load_block, load_kernel, load_cards, month_given, vouched_by, vouch}
+use Rattle.tablewords.specs.Loading.{Load, taking, leaving, loaded_by, is_hex, load_block, load_kernel, load_cards, month_given, vouched_by, vouch}
 use Rattle.wording.specs.Wording.{requested, judged, answered}
 use Rattle.promises.specs.Desk.{offset_on, Elapsed, Between, ReadOnUtc, mark_of, OnTheDesk, Loading, DeskAnswers}
 
@@ -141,11 +135,11 @@ is_before : (x y : ℤ) → x <ℤ y → lt_z x y ≡ true
 is_before x y h = by_test (lt_z x y) (λ p. p) (λ p. absurd (omega (arith, lt_z_false x y p, lt_to h)))
 
 -- of two stamps on UTC
-utc_steps : (t : Table) (z w : Stamp) → z.scale ≡ Utc → w.scale ≡ Utc → steps_between t z w ≡ Count (offset_on t w.reading.label -ℤ offset_on t z.reading.label)
+utc_steps : (t : Table) (z w : Stamp) → z.scale ≡ Utc → w.scale ≡ Utc → steps_between t z w ≡ Some (offset_on t w.reading.label -ℤ offset_on t z.reading.label)
 utc_steps t z w p q = rw (p, q)
 
 module _ (t : Table) (a b : List ℕ) (x y : ℤ) (z w : Stamp) (g : ReadOnUtc t a x z) (h : ReadOnUtc t b y w) where
-  lasts : span_of t a b ≡ Lasts (record { micros = y -ℤ x; steps = steps_in_order t x z y w; beyond = (stamp_read t a).beyond || (stamp_read t b).beyond })
+  lasts : span_of t a b ≡ Ok (record { micros = y -ℤ x; steps = steps_in_order t x z y w; beyond = (stamp_read t a).beyond || (stamp_read t b).beyond })
   lasts = sym (span_of_two t a b refl g.read h.read refl refl)
 
   between_answer_lem : between_reply t a b ≡ answering (seconds_text (y -ℤ x) ++ (ascii " s" ++ mark_of t a b))
@@ -156,10 +150,10 @@ module _ (t : Table) (a b : List ℕ) (x y : ℤ) (z w : Stamp) (g : ReadOnUtc t
   unfolding pass_reply sheet_row
   pass_answer_lem name e = sym (cond_yes _ e refl) ∙ ap (pass_answer name a b) lasts
 
-  on : x ≤ℤ y → steps_in_order t x z y w ≡ Count (offset_on t w.reading.label -ℤ offset_on t z.reading.label)
+  on : x ≤ℤ y → steps_in_order t x z y w ≡ Some (offset_on t w.reading.label -ℤ offset_on t z.reading.label)
   on e = sym (cond_rest _ (not_before x y e) refl) ∙ utc_steps t z w (is_utc t a x z g) (is_utc t b y w h)
 
-  back : y <ℤ x → steps_in_order t x z y w ≡ Count (offset_on t z.reading.label -ℤ offset_on t w.reading.label)
+  back : y <ℤ x → steps_in_order t x z y w ≡ Some (offset_on t z.reading.label -ℤ offset_on t w.reading.label)
   back e = sym (cond_yes _ (is_before y x e) refl) ∙ utc_steps t w z (is_utc t b y w h) (is_utc t a x z g)
 
 pub on_the_desk : OnTheDesk
@@ -197,12 +191,9 @@ replaced : (t : Table) {l : Load} → Replaces l → Keeps t l
 replaced t p = record { kept_or_lost = λ e. inr (p.lost e); fine = λ h. p.fine }
 
 -- a table that is read is accepted
-loaded_replaces : (given : List ℕ) (r : TableRead) → (table_results r ≡ (0, 0, r.table) → accepted r.table ≡ true) → Replaces (loaded_by given r)
-loaded_replaces given r h = go r.answer (λ e. h (ap (λ (a : TableAnswer). table_results (record { answer = a; table = r.table })) e))
-  where
-    go : (a : TableAnswer) → (a ≡ Read → accepted r.table ≡ true) → Replaces (loaded_as given r.table a)
-    go Read k = takes r.table (k refl)
-    go (Refused why place) k = loses
+loaded_replaces : (given : List ℕ) (r : Result Table Fault) → ((t : Table) → table_results r ≡ (0, 0, t) → accepted t ≡ true) → Replaces (loaded_by given r)
+loaded_replaces given (Ok t) h = takes t (h t refl)
+loaded_replaces given (Err fault) h = loses
 
 bytes_more : (x : ℕ) (s : List ℕ) → x < 256 → Bytes s → Bytes (x ∷ s)
 bytes_more x s h k zero = h
@@ -225,9 +216,8 @@ block_replaces : (hex : List ℕ) → Replaces (load_block hex)
 unfolding load_block
 block_replaces hex =
     let s = paired hex in
-    let t = (read_either s).table in
     pick Replaces (is_hex hex)
-    (λ e. loaded_replaces hex (read_either s) (λ g. ⊎_elim (right Old s t (pairs_bytes hex)) (right New s t (pairs_bytes hex)) ((blocks.told_apart.either s t).0 g)))
+    (λ e. loaded_replaces hex (read_either s) (λ t g. ⊎_elim (right Old s t (pairs_bytes hex)) (right New s t (pairs_bytes hex)) ((blocks.told_apart.either s t).0 g)))
     (λ e. loses)
   where
     right : (form : Form) (s : List ℕ) (t : Table) → Bytes s → GivesTable form s t → accepted t ≡ true
@@ -238,12 +228,12 @@ unfolding load_kernel
 kernel_replaces given readable file =
     let r = read_kernel file in
     pick Replaces readable
-    (λ e. loaded_replaces given r (λ g. let w = ((kernels.reads file).gives_a_table r.table).0 g in let v = w.1.1.1 in ap accepted (sym v.1) ∙ v.0.is_accepted))
+    (λ e. loaded_replaces given r (λ t g. let w = ((kernels.reads file).gives_a_table t).0 g in let v = w.1.1.1 in ap accepted (sym v.1) ∙ v.0.is_accepted))
     (λ e. loses)
 
 -- cards that give a table give an accepted one
-cards_accepted : (file : List ℕ) → table_results (read_cards file) ≡ (0, 0, (read_cards file).table) → accepted (read_cards file).table ≡ true
-cards_accepted file g = (((cards.reads file).gives_a_table (read_cards file).table).0 g).1.is_accepted
+cards_accepted : (file : List ℕ) (t : Table) → table_results (read_cards file) ≡ (0, 0, t) → accepted t ≡ true
+cards_accepted file t g = (((cards.reads file).gives_a_table t).0 g).1.is_accepted
 
 cards_replaces : (given : List ℕ) (readable : Bool) (file : List ℕ) → Replaces (load_cards given readable file)
 unfolding load_cards
@@ -256,9 +246,9 @@ vouch_keeps : (t : Table) (month : List ℕ) → Keeps t (vouch t month)
 unfolding vouch
 vouch_keeps t month = go (month_given month)
   where
-    go : (n : Number) → Keeps t (vouched_by t month n)
-    go (Is v) = pick (Keeps t) (accepted (vouched_to v t)) (λ e. replaced t (takes (vouched_to v t) e)) (λ e. stays t)
-    go Bad = stays t
+    go : (n : Option ℕ) → Keeps t (vouched_by t month n)
+    go (Some v) = pick (Keeps t) (accepted (vouched_to v t)) (λ e. replaced t (takes (vouched_to v t) e)) (λ e. stays t)
+    go None = stays t
 
 module _ (t : Table) (readable : Bool) (file line : List ℕ) where
   requested_keeps : Keeps t (requested t readable file line)
@@ -292,7 +282,7 @@ none_accepted : accepted no_table ≡ false
 unfolding accepted
 none_accepted = refl
 
-no_stamp : (given : List ℕ) (x : ℤ) (z : Stamp) → (stamp_read no_table given).answer ≡ StampRead x z → ⊥
+no_stamp : (given : List ℕ) (x : ℤ) (z : Stamp) → (stamp_read no_table given).answer ≡ Ok (x, z) → ⊥
 unfolding stamp_read
 no_stamp given x z e =
     let a = read_accepted no_table (clock_of given) (drop (length (before 32 given) + 1) given) x z e in

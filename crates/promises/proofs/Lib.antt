@@ -19,3 +19,4 @@ pub mod Julian
 pub mod Listing
 pub mod Desk
 pub mod Worked
+pub mod Rows

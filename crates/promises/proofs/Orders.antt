@@ -11,16 +11,15 @@ use lib.Dec.{leb}
 use lib.IntN.{ℤ}
 use lib.ListN.{length}
 use lib.Signed.{le_z}
+use Rattle.std.specs.Prelude.{Option, Some, None, Result, Ok, Err}
 use Rattle.laws.proofs.Branches.{cond_yes}
 use Rattle.laws.proofs.Cases.{and_l, and_r, join, by_truth}
 use Rattle.laws.proofs.Difference.{le_z_true, le_le_z}
 use Rattle.answer.specs.declared.Refusal.{Refusal}
 use Rattle.answer.specs.declared.Refusal.TheVariants.{Shape as SHAPE, Range as RANGE, Table as TABLE}
-use Rattle.answer.specs.declared.Written.TheVariants.{Wrote, Refused as NotWritten}
 use Rattle.answer.specs.Refusals.{number, refusing, all_pass}
 use Rattle.answer.specs.Buffers.{room_last, written_results}
 use Rattle.answer.proofs.Orders.{none_refused, was_passed, refusing_map, number_some}
-use Rattle.calendar.specs.declared.YearDate.TheVariants.{On, Nothing}
 use Rattle.calendar.specs.Days.{year_length}
 use Rattle.calendar.specs.Dates.{in_year, date_in_year}
 use Rattle.calendar.proofs.Years.{day_back}
@@ -32,15 +31,11 @@ use Rattle.labels.specs.declared.Reading.{Reading}
 use Rattle.labels.specs.Labels.{label, whole, month_of, real_month, real_day, minute_length, label_tests}
 use Rattle.labels.specs.Seconds.{axis_of, first_reading, last_reading as last_reading_lem, in_years as in_labels}
 use Rattle.stamp.specs.declared.Scale.{Scale}
-use Rattle.stamp.specs.declared.InstantAnswer.TheVariants.{At, Refused as NoInstant}
-use Rattle.stamp.specs.declared.StampAnswer.TheVariants.{Stamped, Refused as NoStamp}
 use Rattle.stamp.specs.Scales.{scale_of, scale_tests, offsets_of, most_second, to_instant, to_axis, instant_for}
 use Rattle.stamp.specs.Stamps.{instant_of, instant_results, stamp_of, stamp_results}
 use Rattle.stamp.specs.Back.{in_range, stamp_at}
 use Rattle.stamp.specs.Promise.{stamp}
 use Rattle.stamp.proofs.Scales.{to_instant_is, to_axis_is}
-use Rattle.clock.specs.declared.TickAnswer.{TickAnswer}
-use Rattle.clock.specs.declared.TickAnswer.TheVariants.{Next, Refused as NoTick}
 use Rattle.clock.specs.Clock.{next, start, tick, tick_results, onward, after}
 use Rattle.clock.specs.Promise.{last_label, ended}
 use Rattle.clock.proofs.Promise.{all_tick}
@@ -50,16 +45,12 @@ use Rattle.cards.specs.Writing.{cards_of, card_tests}
 use Rattle.pictures.specs.declared.Date.{Date}
 use Rattle.pictures.specs.declared.Date.TheVariants.{Numbered, OfYear, Named}
 use Rattle.pictures.specs.declared.Fields.{Fields}
-use Rattle.pictures.specs.declared.FieldsAnswer.{FieldsAnswer}
-use Rattle.pictures.specs.declared.FieldsAnswer.TheVariants.{Picture, NoPicture}
 use Rattle.pictures.specs.Pictures.{picture_text, WellFormed}
 use Rattle.pictures.specs.Reading.{read_fields}
 use Rattle.pictures.proofs.Promise.{back, shown}
-use Rattle.text.specs.declared.TextAnswer.TheVariants.{Read, Refused as NoText}
 use Rattle.text.specs.Text.{date_or, month_day_of, reading_of, fields_read, read_text, text_results, write_tests, text_at, write_text}
 use Rattle.text.proofs.Exactly.{sized}
 use Rattle.julian.specs.declared.JulianDate.{JulianDate}
-use Rattle.julian.specs.declared.JulianAnswer.TheVariants.{Refused as NoDate}
 use Rattle.fraction.specs.Fraction.{is_fraction, is_half}
 use Rattle.julian.specs.Dates.{write_julian, julian_results, read_tests, read_julian}
 use Rattle.promises.specs.Orders.{verdict, Verdicts, real_month_day, within_labels, instant_of_tests, real_as_shown, read_text_tests, instant_tests, write_text_tests, read_julian_tests, start_tests, is_last, tick_tests, Orders, GivenExactly, EveryCall}
@@ -112,10 +103,10 @@ unfolding date_in_year real_month real_day
 date_is y h mi s (Numbered m d) = refl
 date_is y h mi s (OfYear n) = go (leb 1 n && leb n (year_length y)) refl
   where
-    go : (b : Bool) → (leb 1 n && leb n (year_length y)) ≡ b → b ≡ real_month_day (label y (date_or (cond b (On (in_year y (n - 1))) Nothing)).month (date_or (cond b (On (in_year y (n - 1))) Nothing)).day h mi s)
+    go : (b : Bool) → (leb 1 n && leb n (year_length y)) ≡ b → b ≡ real_month_day (label y (date_or (cond b (Some (in_year y (n - 1))) None)).month (date_or (cond b (Some (in_year y (n - 1))) None)).day h mi s)
     go true e =
         let a = in_year y (n - 1) in
-        let i = (day_back y n a (sym (cond_yes Nothing e refl))).0 in
+        let i = (day_back y n a (sym (cond_yes None e refl))).0 in
         sym
         (join (join (le-leb 1 a.month i.month_low) (le-leb a.month 12 i.month_high))
         (join (le-leb 1 a.day i.day_low) (le-leb a.day (month_length (12 * y + (a.month - 1))) i.day_high)))
@@ -140,11 +131,11 @@ module _ (t : Table) (ok : accepted t ≡ true) where
   unfolding after
   last_ticks =
       let w = (all_tick t ok).ends in
-      ap (λ (a : TickAnswer). tick_results (onward t a)) (sym (next_is (after t w.0) w.1.ends_with)) ∙ w.1.stays_refused (suc w.0) (omega arith)
+      ap (λ (a : Result Label Refusal). tick_results (onward t a)) (sym (next_is (after t w.0) w.1.ends_with)) ∙ w.1.stays_refused (suc w.0) (omega arith)
     where
-      next_is : (a : TickAnswer) → tick_results a ≡ (0, last_label) → a ≡ Next last_label
-      next_is (Next l) e = ap (λ v. Next v.1) e
-      next_is (NoTick why) e = absurd (number_some why (ap (λ v. v.0) e))
+      next_is : (a : Result Label Refusal) → tick_results a ≡ (0, last_label) → a ≡ Ok last_label
+      next_is (Ok l) e = ap (λ v. Ok v.1) e
+      next_is (Err why) e = absurd (number_some why (ap (λ v. v.0) e))
 
   -- an admitted label ticks but for the last
   ticks : (l : Label) → all_pass (label_tests (offset_at t) 60 (whole l)) ≡ true → (tick_results (tick t l)).0 ≡ cond (not (is_last l)) 0 7
@@ -168,26 +159,26 @@ module _ (t : Table) where
   instant_of_lem : (k : ℕ) (r : Reading) → (instant_results (instant_of t k r)).0 ≡ verdict (instant_of_tests t k r)
   unfolding instant_of
   instant_of_lem k r =
-      refusing_map (λ a. (instant_results a).0) NoInstant (of_reading k r) (At (instant_for t (scale_of k) r))
+      refusing_map (λ a. (instant_results a).0) Err (of_reading k r) (Ok (instant_for t (scale_of k) r))
       ∙ rw (joined (real_month r.label) (real_day r.label))
 
   read_text_lem : (k : ℕ) (text : List ℕ) (f : Fields) → WellFormed f → text ≡ picture_text f → (text_results (read_text t k text)).0 ≡ verdict (read_text_tests t k true f)
   unfolding read_text
   read_text_lem k text f w e =
       let r = reading_of f in
-      ap (λ (a : FieldsAnswer). (text_results (refusing NoText (scale_tests t k) (fields_read t (scale_of k) a))).0) (ap read_fields e ∙ back f w)
-      ∙ refusing_map (λ a. (text_results a).0) NoText (of_reading k r) (Read (instant_for t (scale_of k) r) (stamp (scale_of k) r))
+      ap (λ (a : Option Fields). (text_results (refusing Err (scale_tests t k) (fields_read t (scale_of k) a))).0) (ap read_fields e ∙ back f w)
+      ∙ refusing_map (λ a. (text_results a).0) Err (of_reading k r) (Ok (instant_for t (scale_of k) r, stamp (scale_of k) r))
       ∙ rw (joined (real_month r.label) (real_day r.label), date_is f.year f.hour f.minute f.second f.date)
 
   read_no_picture : (k : ℕ) (text : List ℕ) → ((f : Fields) → WellFormed f → text ≡ picture_text f → ⊥) → (f : Fields) → (text_results (read_text t k text)).0 ≡ verdict (read_text_tests t k false f)
   unfolding read_text
   read_no_picture k text none f =
-      ap (λ (a : FieldsAnswer). (text_results (refusing NoText (scale_tests t k) (fields_read t (scale_of k) a))).0) (go (read_fields text) refl)
-      ∙ refusing_map (λ a. (text_results a).0) NoText (scale_tests t k) (NoText SHAPE)
+      ap (λ (a : Option Fields). (text_results (refusing Err (scale_tests t k) (fields_read t (scale_of k) a))).0) (go (read_fields text) refl)
+      ∙ refusing_map (λ a. (text_results a).0) Err (scale_tests t k) (Err SHAPE)
     where
-      go : (a : FieldsAnswer) → read_fields text ≡ a → a ≡ NoPicture
-      go (Picture g) e = let w = shown text g e in absurd (none g w.0 w.1)
-      go NoPicture e = refl
+      go : (a : Option Fields) → read_fields text ≡ a → a ≡ None
+      go (Some g) e = let w = shown text g e in absurd (none g w.0 w.1)
+      go None e = refl
 
   -- and of an instant
   abbrev of_instant : ℕ → ℤ → List (Bool × Refusal)
@@ -195,30 +186,30 @@ module _ (t : Table) where
 
   stamp_of_lem : (k : ℕ) (x : ℤ) → (stamp_results (stamp_of t x k)).0 ≡ verdict (instant_tests t k x)
   unfolding stamp_of
-  stamp_of_lem k x = refusing_map (λ a. (stamp_results a).0) NoStamp (of_instant k x) (Stamped (stamp_at t (scale_of k) x)) ∙ rw in_range_lem
+  stamp_of_lem k x = refusing_map (λ a. (stamp_results a).0) Err (of_instant k x) (Ok (stamp_at t (scale_of k) x)) ∙ rw in_range_lem
 
   write_julian_lem : (k : ℕ) (x : ℤ) → (julian_results (write_julian t x k)).0 ≡ verdict (instant_tests t k x)
   unfolding write_julian
-  write_julian_lem k x = refusing_map (λ a. (julian_results a).0) NoDate (of_instant k x) _ ∙ rw in_range_lem
+  write_julian_lem k x = refusing_map (λ a. (julian_results a).0) Err (of_instant k x) _ ∙ rw in_range_lem
 
   write_text_lem : (x : ℤ) (p k digits : ℕ) (buffer : List ℕ) → (written_results (write_text t x p k digits buffer)).0 ≡ verdict (write_text_tests t x p k digits buffer)
   write_text_lem x p k digits buffer =
-      refusing_map (λ a. (written_results a).0) NotWritten (room_last (write_tests t x p k digits) (text_at t x p k digits) buffer) (Wrote (length (text_at t x p k digits)))
+      refusing_map (λ a. (written_results a).0) Err (room_last (write_tests t x p k digits) (text_at t x p k digits) buffer) (Ok (length (text_at t x p k digits)))
       ∙ past number (write_tests t x p k digits) (λ e. ap (λ (n : ℕ). cond (leb n (length buffer)) 0 1) (sized p digits (stamp_at t (scale_of k) x).reading (search (and_l, and_r, leb-true)) (search (and_l, and_r, leb-true))))
       ∙ rw in_range_lem
 
   read_julian_lem : (k : ℕ) (p : JulianDate) → (instant_results (read_julian t k p)).0 ≡ verdict (read_julian_tests t k p)
   unfolding read_julian
   read_julian_lem k p =
-      refusing_map (λ a. (instant_results a).0) NoInstant (scale_tests t k ++ read_tests (offsets_of t (scale_of k)) p) _
+      refusing_map (λ a. (instant_results a).0) Err (scale_tests t k ++ read_tests (offsets_of t (scale_of k)) p) _
       ∙ rw (joined (is_half p.midnight) (is_fraction p.fraction))
 
   tick_the_clock : (l : Label) → (tick_results (tick t l)).0 ≡ verdict (tick_tests t l)
   unfolding tick
   tick_the_clock l =
       let asked : List (Bool × Refusal) = (accepted t, TABLE) ∷ label_tests (offset_at t) 60 (whole l) in
-      refusing_map (λ a. (tick_results a).0) NoTick asked (next (month_length (month_of l)) (minute_length (offset_at t) l) l)
-      ∙ past number asked (λ e. ap (λ a. (tick_results a).0) (sym (none_refused NoTick asked _ e)) ∙ ticks t (and_l (accepted t) _ e) l (and_r (accepted t) _ e))
+      refusing_map (λ a. (tick_results a).0) Err asked (next (month_length (month_of l)) (minute_length (offset_at t) l) l)
+      ∙ past number asked (λ e. ap (λ a. (tick_results a).0) (sym (none_refused Err asked _ e)) ∙ ticks t (and_l (accepted t) _ e) l (and_r (accepted t) _ e))
       ∙ rw (joined (real_month l) (real_day l))
 
   given_exactly : GivenExactly t
@@ -232,10 +223,10 @@ module _ (t : Table) where
         stamp_of_lem = stamp_of_lem;
         write_julian_lem = write_julian_lem;
         read_julian_lem = read_julian_lem;
-        write_block_lem = λ form buffer. refusing_map (λ a. (written_results a).0) NotWritten (room_last (block_tests t) (block_in form t) buffer) (Wrote (length (block_in form t)));
-        write_kernel_lem = λ buffer. refusing_map (λ a. (written_results a).0) NotWritten (room_last (kernel_tests t) (kernel_of t) buffer) (Wrote (length (kernel_of t)));
-        write_cards_lem = λ buffer. refusing_map (λ a. (written_results a).0) NotWritten (room_last (card_tests t) (cards_of t) buffer) (Wrote (length (cards_of t)));
-        start_the_clock = refusing_map (λ a. (tick_results a).0) NoTick (start_tests t) (Next (label 1972 1 1 0 0 0));
+        write_block_lem = λ form buffer. refusing_map (λ a. (written_results a).0) Err (room_last (block_tests t) (block_in form t) buffer) (Ok (length (block_in form t)));
+        write_kernel_lem = λ buffer. refusing_map (λ a. (written_results a).0) Err (room_last (kernel_tests t) (kernel_of t) buffer) (Ok (length (kernel_of t)));
+        write_cards_lem = λ buffer. refusing_map (λ a. (written_results a).0) Err (room_last (card_tests t) (cards_of t) buffer) (Ok (length (cards_of t)));
+        start_the_clock = refusing_map (λ a. (tick_results a).0) Err (start_tests t) (Ok (label 1972 1 1 0 0 0));
         tick_the_clock = tick_the_clock;
       }
 

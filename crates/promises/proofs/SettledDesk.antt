@@ -7,14 +7,14 @@ use Prim.Native.Nat.{ℕ, ◌+◌, ◌≤◌}
 use native.Mathlib.Omega.{arith}
 use lib.Dec.{eqb, leb}
 use lib.ListN.{length, drop}
+use Rattle.std.specs.Prelude.{Option, Some, None, IfSome}
+use Rattle.seconds.specs.declared.Move.{Move}
 use Rattle.phrases.specs.declared.Said.{Said}
 use Rattle.phrases.specs.Puts.{Puts}
 use Rattle.phrases.specs.Parts.{begins_with, up_to}
 use Rattle.phrases.specs.Replies.{Reply, Says}
 use Rattle.phrases.proofs.Puts.{puts}
 use Rattle.digits.specs.Bytes.{ascii}
-use Rattle.digits.specs.declared.Number.{Number}
-use Rattle.digits.specs.declared.Number.TheVariants.{Is, Bad}
 use Rattle.digits.specs.Decimals.{decimal_of, Within}
 use Rattle.lines.specs.Words.{before}
 use Rattle.seconds.specs.Seconds.{fraction_given, joined, micros_given, move_given, Short}
@@ -83,17 +83,20 @@ few_micros : (s : List ℕ) → Within 999999999999999999 (micros_given s)
 unfolding micros_given
 few_micros s = go (decimal_of 999999999999 (before 46 s)) (fraction_given (drop (length (before 46 s) + 1) s)) refl refl
   where
-    go : (w f : Number) → w ≡ decimal_of 999999999999 (before 46 s) → f ≡ fraction_given (drop (length (before 46 s) + 1) s) → Within 999999999999999999 (joined w f)
-    go (Is m) (Is n) p q = let h = small (before 46 s) (drop (length (before 46 s) + 1) s) p q refl refl in omega arith
-    go (Is m) Bad p q = tt
-    go Bad f p q = tt
+    go : (w f : Option ℕ) → w ≡ decimal_of 999999999999 (before 46 s) → f ≡ fraction_given (drop (length (before 46 s) + 1) s) → Within 999999999999999999 (joined w f)
+    go (Some m) (Some n) p q = let h = small (before 46 s) (drop (length (before 46 s) + 1) s) p q refl refl in omega arith
+    go (Some m) None p q = tt
+    go None f p q = tt
 
-given_short : (s : List ℕ) → Short (move_given s)
+abbrev MoveIsShort : Option Move → Type 0
+MoveIsShort m = IfSome m Short
+
+given_short : (s : List ℕ) → MoveIsShort (move_given s)
 unfolding move_given
 given_short [] = tt
 given_short (b ∷ s) =
-    pick Short (eqb b 45) (λ e. short_back (micros_given s) (few_micros s))
-    (λ e. pick Short (eqb b 43) (λ f. short_ahead (micros_given s) (few_micros s)) (λ f. short_ahead (micros_given (b ∷ s)) (few_micros (b ∷ s))))
+    pick MoveIsShort (eqb b 45) (λ e. short_back (micros_given s) (few_micros s))
+    (λ e. pick MoveIsShort (eqb b 43) (λ f. short_ahead (micros_given s) (few_micros s)) (λ f. short_ahead (micros_given (b ∷ s)) (few_micros (b ∷ s))))
 
 -- a part lies within its line
 abbrev PartIn : List ℕ → Part → Type 0
@@ -117,6 +120,8 @@ settled_phrases =
       begins_with_lem = λ s word k. equal;
       up_to_lem = λ s word k. following (λ r. r ≤ length s.now) (few_up_to word.now s.now);
       refuse_as = λ out at number sentence given k. said_alone;
+      sentence_lem = λ wrong k. equal;
+      refuse_request = λ out at wrong given k. said_alone;
       refuse = λ out at why given k. said_alone;
       put_why = λ out at number k. put_alone;
       put_month = λ out at month k. put_alone;
@@ -127,7 +132,7 @@ settled_seconds : SettledSeconds
 settled_seconds =
     record {
       put_seconds = λ out at z k. put_alone;
-      move_given_lem = λ given k. following Short (given_short given.now);
+      move_given_lem = λ given k. following MoveIsShort (given_short given.now);
     }
 
 settled_stampwords : SettledStampwords

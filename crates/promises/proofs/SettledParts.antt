@@ -5,6 +5,9 @@ use mathlib.Core.Bool.{Bool, true, false, cond, ◌&&◌}
 use mathlib.Core.List.{List, [], ◌∷◌}
 use Prim.Native.Nat.{ℕ, zero, suc, ◌+◌, min, ◌≤◌}
 use native.Mathlib.Omega.{arith}
+use denote.Param.Laws.{Laws, IsCopy}
+use denote.RattleType.{RattleType}
+use mir.Syntax.{Dict}
 use borrow.Author.Tests.{leb-true, leb-false}
 use lib.Dec.{eqb, leb}
 use lib.IntN.{ℤ}
@@ -20,20 +23,23 @@ use Rattle.lines.specs.Cuts.{cut_at}
 use Rattle.lines.specs.Pairs.{nibble}
 use Rattle.lines.proofs.Words.{leading_short}
 use Rattle.lines.proofs.Lines.{line_next}
+use Rattle.leap.specs.declared.Table.{Table}
 use Rattle.fields.specs.declared.Cursor.{Cursor}
-use Rattle.fields.specs.declared.U32Field.{U32Field}
-use Rattle.fields.specs.declared.I32Field.{I32Field}
+use Rattle.fields.specs.declared.Field.{Field}
+use Rattle.std.specs.declared.clone.Clone.{Ghosts as CloneGhosts}
 use Rattle.laws.specs.Settles.{Shown, Settles}
 use Rattle.laws.proofs.Settles.{equal, each, following}
-use Rattle.promises.specs.SettledParts.{SettledParts, SettledTables, SettledBytes, SettledKinds}
+use Rattle.promises.specs.SettledParts.{SettledParts, SettledMarks, SettledTables, SettledBytes, SettledKinds}
 
 pub settled_parts : SettledParts
 settled_parts =
     record {
       refusal_number = λ why k. equal;
+      fault = λ why k. equal;
       marks_of = λ beyond k. equal;
       write = λ bytes out k. each;
-      refused_at_lem = λ why at k. equal;
+      tabled = λ count months offsets vouched k. equal;
+      no_table_lem = λ k. equal;
       days_before_lem = λ m k. equal;
       month_length_lem = λ m k. equal;
       month_of_day_lem = λ day k. equal;
@@ -51,7 +57,7 @@ settled_parts =
       label_of_lem = λ p k. equal;
       scale_numbered = λ n k. equal;
       scale_number_lem = λ s k. equal;
-      refused_instant = λ why k. equal;
+      scale_known_lem = λ n k. equal;
       beyond_on_lem = λ s v m k. equal;
       instant_on = λ s v day micro k. equal;
       fraction_of_lem = λ part whole k. equal;
@@ -60,11 +66,16 @@ settled_parts =
       nearest_of_lem = λ x factor shift k. equal;
     }
 
-pub settled_tables : (count : ℕ) (months : Shown (List ℕ)) (offsets : Shown (List ℤ)) (vouched : ℕ) → SettledTables count months offsets vouched
-settled_tables count months offsets vouched =
+-- an equation, where what is asked for is there
+there : {A asked : Type 0} {v : A} → asked → Settles asked (λ (a : A). a ≡ v) v
+there given = record { asks_nothing = given; allows_it_alone = λ a. (λ p. p, λ p. p) }
+
+pub settled_marks : (T : RattleType) (laws : Laws T) (copied : IsCopy T) (cloned : CloneGhosts T.Denot) (dict : Dict) → SettledMarks T laws copied cloned dict
+settled_marks T laws copied cloned dict = record { new = λ a b k lasts. there lasts; refused = λ why k lasts. there lasts }
+
+pub settled_tables : (t : Shown Table) → SettledTables t
+settled_tables t =
     record {
-      tabled = λ k. equal;
-      found = λ k. equal;
       is_accepted = λ k. equal;
       judge = λ k. equal;
       offset_at = λ m k. equal;
@@ -144,10 +155,10 @@ nibble_low b =
     (low (leb 65 b && leb b 70) (λ e. omega (arith, leb-true b 70 (and_r (leb 65 b) _ e)))
     (low (leb 97 b && leb b 102) (λ e. omega (arith, leb-true b 102 (and_r (leb 97 b) _ e))) (omega arith)))
 
-abbrev u32_field : ℕ → Cursor → U32Field
+abbrev u32_field : ℕ → Cursor → Field ℕ
 u32_field v n = record { value = v; next = n }
 
-abbrev i32_field : ℤ → Cursor → I32Field
+abbrev i32_field : ℤ → Cursor → Field ℤ
 i32_field v n = record { value = v; next = n }
 
 pub settled_bytes : SettledBytes
@@ -190,10 +201,10 @@ settled_bytes =
       ended = λ line c k. equal;
       number_field = λ line c most k. equal;
       u32_field_lem = λ line c k.
-          record { asks_nothing = tt; allows_it_alone = λ r. (λ p. ap₂ u32_field p.0 p.1, λ p. (ap (λ (r : U32Field). r.value) p, ap (λ (r : U32Field). r.next) p)) };
+          record { asks_nothing = tt; allows_it_alone = λ r. (λ p. ap₂ u32_field p.0 p.1, λ p. (ap (λ (r : Field ℕ). r.value) p, ap (λ (r : Field ℕ). r.next) p)) };
       i64_field = λ line c k. equal;
       i32_field_lem = λ line c k.
-          record { asks_nothing = tt; allows_it_alone = λ r. (λ p. ap₂ i32_field p.0 p.1, λ p. (ap (λ (r : I32Field). r.value) p, ap (λ (r : I32Field). r.next) p)) };
+          record { asks_nothing = tt; allows_it_alone = λ r. (λ p. ap₂ i32_field p.0 p.1, λ p. (ap (λ (r : Field ℤ). r.value) p, ap (λ (r : Field ℤ). r.next) p)) };
       hex_field = λ line c out k. each;
       pattern_field = λ line c k. equal;
       double = λ bits k. equal;

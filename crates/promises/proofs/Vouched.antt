@@ -9,17 +9,19 @@ use borrow.Author.Tests.{eqb-true}
 use lib.Dec.{eqb, leb, ltb}
 use lib.IntN.{ℤ, pos}
 use lib.ListN.{length, take}
+use Rattle.std.specs.Prelude.{Result, Ok, Err}
+use Rattle.julian.specs.declared.JulianDate.{JulianDate}
+use Rattle.answer.specs.declared.Refusal.{Refusal}
 use Rattle.laws.specs.Tests.{eq_z, all_below, All}
 use Rattle.laws.proofs.Cases.{pick}
-use Rattle.answer.specs.declared.Written.{Written}
-use Rattle.answer.specs.declared.Written.TheVariants.{Wrote, Refused as NotWritten}
 use Rattle.answer.specs.Buffers.{written_results}
+use Rattle.answer.specs.Marks.{marked as with_mark}
 use Rattle.answer.proofs.Orders.{number_some}
 use Rattle.months.specs.Months.{leap_year, month_length, days_before}
 use Rattle.leap.specs.declared.Table.{Table}
 use Rattle.leap.specs.Leap.{without_month, vouched_right, one_apart, place_right, accepted, last_begun, offset_in, beyond}
 use Rattle.leap.specs.Entries.{table_of, FullLength, Good}
-use Rattle.leap.specs.declared.TableRead.{TableRead}
+use Rattle.answer.specs.declared.Fault.{Fault}
 use Rattle.leap.specs.Readers.{table_results}
 use Rattle.leap.specs.Outcomes.{Outcome, entered, fault, table_read}
 use Rattle.leap.proofs.Vouched.{vouched, without_month_lem}
@@ -31,19 +33,13 @@ use Rattle.labels.specs.Seconds.{axis_at}
 use Rattle.stamp.specs.declared.Scale.{Scale}
 use Rattle.stamp.specs.declared.Scale.TheVariants.{Utc, Tai, Tdt, Gps}
 use Rattle.stamp.specs.declared.Stamp.{Stamp}
-use Rattle.stamp.specs.declared.InstantAnswer.{InstantAnswer}
-use Rattle.stamp.specs.declared.InstantAnswer.TheVariants.{At, Refused as NoInstant}
-use Rattle.stamp.specs.declared.StampAnswer.{StampAnswer}
-use Rattle.stamp.specs.declared.StampAnswer.TheVariants.{Stamped, Refused as NoStamp}
 use Rattle.stamp.specs.Scales.{scale_of, to_instant}
 use Rattle.stamp.specs.Back.{stamp_at}
 use Rattle.stamp.specs.Stamps.{instant_of, instant_results, stamp_of, stamp_results}
-use Rattle.stamp.specs.Marks.{beyond_on, marked_instant, marked_stamp, stamp_of_marked}
+use Rattle.stamp.specs.Marks.{beyond_on, stamp_of_marked}
 use Rattle.stamp.specs.Promise.{Reads, stamp}
 use Rattle.stamp.proofs.Promise.{at_instant, at_stamp, stamp_given, stamp_reads, stamp_from, reads_stamp}
 use Rattle.stamp.proofs.Cycles.{quick_instant_lem}
-use Rattle.clock.specs.declared.TickAnswer.{TickAnswer}
-use Rattle.clock.specs.declared.TickAnswer.TheVariants.{Next, Refused as NoTick}
 use Rattle.clock.specs.Clock.{start, tick, next, tick_results}
 use Rattle.clock.specs.Marks.{marked_tick}
 use Rattle.clock.proofs.Beside.{tick_beside}
@@ -64,17 +60,13 @@ use Rattle.cards.specs.Card.{last_card_month}
 use Rattle.cards.specs.Writing.{cards_of}
 use Rattle.cards.specs.Promise.{GivesTable as CardsGive, InYears}
 use Rattle.cards.proofs.Promise.{cards, no_month as cards_none}
-use Rattle.text.specs.declared.TextAnswer.{TextAnswer}
-use Rattle.text.specs.declared.TextAnswer.TheVariants.{Read, Refused as NoText}
 use Rattle.pictures.specs.Reading.{read_fields}
 use Rattle.text.specs.Text.{read_text, text_results, write_text}
-use Rattle.text.specs.Marks.{marked_text, marked_written}
+use Rattle.text.specs.Marks.{marked_text}
 use Rattle.text.proofs.Answers.{same_without_month}
 use Rattle.text.proofs.Promise.{promised}
-use Rattle.julian.specs.declared.JulianAnswer.{JulianAnswer}
-use Rattle.julian.specs.declared.JulianAnswer.TheVariants.{Dated, Refused as NoDate}
 use Rattle.julian.specs.Dates.{write_julian, julian_results, read_julian}
-use Rattle.julian.specs.Marks.{marked_pair, beyond_read}
+use Rattle.julian.specs.Marks.{beyond_read}
 use Rattle.julian.proofs.Dates.{read_given}
 use Rattle.julian.proofs.Marks.{month_read}
 use Rattle.promises.specs.Vouched.{Beside, Beyond, BeyondAt, Marked, SameAnswers, until2017, VouchedDesk, RequestA2}
@@ -82,29 +74,29 @@ use Rattle.promises.proofs.Orders.{every_call}
 
 -- ---- a mark is set beside an answer that is given, where it was asked for
 
-instant_mark : (a : InstantAnswer) (b : Bool) → ((marked_instant a b).beyond ≡ true) ↔ ((x : ℤ) × ((instant_results a ≡ (0, x)) × (b ≡ true)))
-instant_mark (At x) b = (λ e. (x, (refl, e)), λ w. w.1.1)
-instant_mark (NoInstant why) b = (λ e. absurd (true≢false (sym e)), λ w. absurd (number_some why (ap (λ v. v.0) w.1.0)))
+instant_mark : (a : Result ℤ Refusal) (b : Bool) → ((with_mark a b).beyond ≡ true) ↔ ((x : ℤ) × ((instant_results a ≡ (0, x)) × (b ≡ true)))
+instant_mark (Ok x) b = (λ e. (x, (refl, e)), λ w. w.1.1)
+instant_mark (Err why) b = (λ e. absurd (true≢false (sym e)), λ w. absurd (number_some why (ap (λ v. v.0) w.1.0)))
 
-stamp_mark : (a : StampAnswer) (b : Bool) → ((marked_stamp a b).beyond ≡ true) ↔ ((z : Stamp) × ((stamp_results a ≡ (0, z)) × (b ≡ true)))
-stamp_mark (Stamped z) b = (λ e. (z, (refl, e)), λ w. w.1.1)
-stamp_mark (NoStamp why) b = (λ e. absurd (true≢false (sym e)), λ w. absurd (number_some why (ap (λ v. v.0) w.1.0)))
+stamp_mark : (a : Result Stamp Refusal) (b : Bool) → ((with_mark a b).beyond ≡ true) ↔ ((z : Stamp) × ((stamp_results a ≡ (0, z)) × (b ≡ true)))
+stamp_mark (Ok z) b = (λ e. (z, (refl, e)), λ w. w.1.1)
+stamp_mark (Err why) b = (λ e. absurd (true≢false (sym e)), λ w. absurd (number_some why (ap (λ v. v.0) w.1.0)))
 
-text_mark : (a : TextAnswer) (v : ℕ) → ((marked_text v a).beyond ≡ true) ↔ ((x : ℤ) × (z : Stamp) × ((text_results a ≡ (0, x, z)) × (beyond_on v z.scale (month_of z.reading.label) ≡ true)))
-text_mark (Read x z) v = (λ e. (x, z, (refl, e)), λ w. subst (λ (y : Stamp). beyond_on v y.scale (month_of y.reading.label) ≡ true) (sym (ap (λ a. a.2) w.2.0)) w.2.1)
-text_mark (NoText why) v = (λ e. absurd (true≢false (sym e)), λ w. absurd (number_some why (ap (λ v. v.0) w.2.0)))
+text_mark : (a : Result (ℤ × Stamp) Refusal) (v : ℕ) → ((marked_text v a).beyond ≡ true) ↔ ((x : ℤ) × (z : Stamp) × ((text_results a ≡ (0, x, z)) × (beyond_on v z.scale (month_of z.reading.label) ≡ true)))
+text_mark (Ok (x, z)) v = (λ e. (x, z, (refl, e)), λ w. subst (λ (y : Stamp). beyond_on v y.scale (month_of y.reading.label) ≡ true) (sym (ap (λ a. a.2) w.2.0)) w.2.1)
+text_mark (Err why) v = (λ e. absurd (true≢false (sym e)), λ w. absurd (number_some why (ap (λ v. v.0) w.2.0)))
 
-written_mark : (a : Written) (b : Bool) → ((marked_written a b).beyond ≡ true) ↔ (((written_results a).0 ≡ 0) × (b ≡ true))
-written_mark (Wrote n) b = (λ e. (refl, e), λ w. w.1)
-written_mark (NotWritten why) b = (λ e. absurd (true≢false (sym e)), λ w. absurd (number_some why w.0))
+written_mark : (a : Result ℕ Refusal) (b : Bool) → ((with_mark a b).beyond ≡ true) ↔ (((written_results a).0 ≡ 0) × (b ≡ true))
+written_mark (Ok n) b = (λ e. (refl, e), λ w. w.1)
+written_mark (Err why) b = (λ e. absurd (true≢false (sym e)), λ w. absurd (number_some why w.0))
 
-pair_mark : (a : JulianAnswer) (b : Bool) → ((marked_pair a b).beyond ≡ true) ↔ (((julian_results a).0 ≡ 0) × (b ≡ true))
-pair_mark (Dated p) b = (λ e. (refl, e), λ w. w.1)
-pair_mark (NoDate why) b = (λ e. absurd (true≢false (sym e)), λ w. absurd (number_some why w.0))
+pair_mark : (a : Result JulianDate Refusal) (b : Bool) → ((with_mark a b).beyond ≡ true) ↔ (((julian_results a).0 ≡ 0) × (b ≡ true))
+pair_mark (Ok p) b = (λ e. (refl, e), λ w. w.1)
+pair_mark (Err why) b = (λ e. absurd (true≢false (sym e)), λ w. absurd (number_some why w.0))
 
-tick_mark : (a : TickAnswer) (v : ℕ) → ((marked_tick v a).beyond ≡ true) ↔ ((l : Label) × ((tick_results a ≡ (0, l)) × (beyond v (month_of l) ≡ true)))
-tick_mark (Next l) v = (λ e. (l, (refl, e)), λ w. subst (λ (k : Label). beyond v (month_of k) ≡ true) (sym (ap (λ a. a.1) w.1.0)) w.1.1)
-tick_mark (NoTick why) v = (λ e. absurd (true≢false (sym e)), λ w. absurd (number_some why (ap (λ v. v.0) w.1.0)))
+tick_mark : (a : Result Label Refusal) (v : ℕ) → ((marked_tick v a).beyond ≡ true) ↔ ((l : Label) × ((tick_results a ≡ (0, l)) × (beyond v (month_of l) ≡ true)))
+tick_mark (Ok l) v = (λ e. (l, (refl, e)), λ w. subst (λ (k : Label). beyond v (month_of k) ≡ true) (sym (ap (λ a. a.1) w.1.0)) w.1.1)
+tick_mark (Err why) v = (λ e. absurd (true≢false (sym e)), λ w. absurd (number_some why (ap (λ v. v.0) w.1.0)))
 
 -- ---- on UTC alone
 
@@ -177,9 +169,9 @@ module _ (t : Table) where
   pair_reads : (x : ℤ) (k : ℕ) → (julian_results (write_julian t x k)).0 ≡ 0 → (accepted t ≡ true) × ((r : Reading) × Reads t (scale_of k) r x)
   pair_reads x k e = go (stamp_of t x k) refl ((every_call t).stamp_of_lem k x ∙ sym ((every_call t).write_julian_lem k x) ∙ e)
     where
-      go : (a : StampAnswer) → stamp_of t x k ≡ a → (stamp_results a).0 ≡ 0 → (accepted t ≡ true) × ((r : Reading) × Reads t (scale_of k) r x)
-      go (Stamped z) p e = ((stamp_given t k x z p).1.0, (z.reading, (stamp_reads t k x z p).1))
-      go (NoStamp why) p e = absurd (number_some why e)
+      go : (a : Result Stamp Refusal) → stamp_of t x k ≡ a → (stamp_results a).0 ≡ 0 → (accepted t ≡ true) × ((r : Reading) × Reads t (scale_of k) r x)
+      go (Ok z) p e = ((stamp_given t k x z p).1.0, (z.reading, (stamp_reads t k x z p).1))
+      go (Err why) p e = absurd (number_some why e)
 
   pub marked : Marked t
   marked =
@@ -222,7 +214,7 @@ module _ (t : Table) where
         clock_ticks = λ l. clock (tick t l);
       }
     where
-      clock : (a : TickAnswer) → ((marked_tick t.vouched a).beyond ≡ true) ↔ ((l : Label) × ((tick_results a ≡ (0, l)) × Beyond t l))
+      clock : (a : Result Label Refusal) → ((marked_tick t.vouched a).beyond ≡ true) ↔ ((l : Label) × ((tick_results a ≡ (0, l)) × Beyond t l))
       clock a =
           let i = tick_mark a t.vouched in
           (λ e. let w = i.0 e in (w.0, (w.1.0, (vouched.beyond_exactly _ _).0 w.1.1)), λ w. i.1 (w.0, (w.1.0, (vouched.beyond_exactly _ _).1 w.1.1)))
@@ -253,7 +245,7 @@ module _ (t : Table) where
 
 -- ---- what is read has no month
 
-abbrev NoMonth : TableRead → Type 0
+abbrev NoMonth : Result Table Fault → Type 0
 NoMonth r = (table_results r).2.vouched ≡ 0
 
 block_none : (o : Outcome) → Under 0 o → NoMonth (table_read o)
@@ -277,9 +269,9 @@ unfolding eq_z all_below one_apart place_right vouched_right accepted
 good = refl
 
 row : (k : ℕ) (r : Reading) (x : ℤ) → leb k 3 ≡ true → Reads until2017 (scale_of k) r x
-    → stamp_of_marked until2017 x k ≡ marked_stamp (Stamped (stamp (scale_of k) r)) (beyond_on 541 (scale_of k) (month_of r.label))
+    → stamp_of_marked until2017 x k ≡ with_mark (Ok (stamp (scale_of k) r)) (beyond_on 541 (scale_of k) (month_of r.label))
 row k r x known reads =
-    ap₂ (λ (a : StampAnswer) (y : Reading). marked_stamp a (beyond_on 541 (scale_of k) (month_of y.label))) (stamp_from until2017 k known good r x reads) (same until2017 good k r x reads)
+    ap₂ (λ (a : Result Stamp Refusal) (y : Reading). with_mark a (beyond_on 541 (scale_of k) (month_of y.label))) (stamp_from until2017 k known good r x reads) (same until2017 good k r x reads)
 
 on_utc_last : Reads until2017 Utc (at 2017 1 31 23 59 59 999999) (pos 539179236999999)
 unfolding leap_year month_length days_before last_begun offset_in last_minute minute_in real_year real_month real_day real_clock has_second to_instant axis_at

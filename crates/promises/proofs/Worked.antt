@@ -8,6 +8,8 @@ use native.Mathlib.Omega.{arith}
 use borrow.Author.Tests.{le-leb}
 use lib.IntN.{pos, neg_ℤ}
 use lib.ListN.{length}
+use Rattle.std.specs.Prelude.{Option, Some, None, Result, Ok, Err, ℤ}
+use Rattle.pictures.specs.declared.Fields.{Fields}
 use Rattle.laws.specs.Tests.{eq_z, all_below, All}
 use Rattle.answer.specs.declared.Refusal.TheVariants.{Shape as SHAPE}
 use Rattle.answer.specs.Refusals.{refusing}
@@ -22,6 +24,7 @@ use Rattle.labels.specs.declared.Reading.{Reading}
 use Rattle.labels.specs.Labels.{at, label_tests, last_minute, minute_in, real_year, real_month, real_day, real_clock, has_second}
 use Rattle.labels.specs.Seconds.{axis_at, in_years}
 use Rattle.labels.proofs.Years.{first_micro}
+use Rattle.answer.specs.declared.Refusal.{Refusal}
 use Rattle.stamp.specs.declared.Scale.{Scale}
 use Rattle.stamp.specs.declared.Stamp.{Stamp}
 use Rattle.stamp.specs.Scales.{scale_of, scale_tests, offsets_of, most_second, to_instant, to_axis}
@@ -32,12 +35,8 @@ use Rattle.stamp.proofs.Cycles.{quick_instant, quick_instant_lem}
 use Rattle.block.specs.Desk.{block_b, block_t, block_n, table_t, table_n}
 use Rattle.block.specs.Reading.{read_groups, read_entries, in_block}
 use Rattle.block.proofs.Desk.{named_right, edged}
-use Rattle.pictures.specs.declared.FieldsAnswer.{FieldsAnswer}
-use Rattle.pictures.specs.declared.FieldsAnswer.TheVariants.{Picture, NoPicture}
 use Rattle.pictures.specs.Pictures.{picture_text}
 use Rattle.pictures.specs.Reading.{like, read_numbered, read_of_year, read_named, read_fields}
-use Rattle.text.specs.declared.TextAnswer.{TextAnswer}
-use Rattle.text.specs.declared.TextAnswer.TheVariants.{Read, Refused}
 use Rattle.text.specs.Text.{reading_of, fields_read, text_of, text_at, read_text, text_results}
 use Rattle.text.proofs.Exactly.{reads_as}
 use Rattle.text.proofs.Desk.{without_shape}
@@ -60,19 +59,19 @@ is_n = ap (λ r. r.2) named_right.1.1.1.0.1
 -- ---- rows that are read
 
 -- with the short way to an instant
-abbrev quickly : Table → Scale → FieldsAnswer → TextAnswer
-quickly t s (Picture f) = let r = reading_of f in refusing Refused (label_tests (offsets_of t s) (most_second s) r) (Read (quick_instant t s r) (stamp s r))
-quickly t s NoPicture = Refused SHAPE
+abbrev quickly : Table → Scale → Option Fields → (Result (ℤ × Stamp) Refusal)
+quickly t s (Some f) = let r = reading_of f in refusing Err (label_tests (offsets_of t s) (most_second s) r) (Ok (quick_instant t s r, stamp s r))
+quickly t s None = Err SHAPE
 
-quick_fields : (t : Table) (s : Scale) (a : FieldsAnswer) → fields_read t s a ≡ quickly t s a
-quick_fields t s (Picture f) = rw (quick_instant_lem t s (reading_of f)) refl
-quick_fields t s NoPicture = refl
+quick_fields : (t : Table) (s : Scale) (a : Option Fields) → fields_read t s a ≡ quickly t s a
+quick_fields t s (Some f) = rw (quick_instant_lem t s (reading_of f)) refl
+quick_fields t s None = refl
 
-quick : {b t : Table} → b ≡ t → (k : ℕ) (text : List ℕ) → text_results (read_text b k text) ≡ text_results (refusing Refused (scale_tests t k) (quickly t (scale_of k) (read_fields text)))
+quick : {b t : Table} → b ≡ t → (k : ℕ) (text : List ℕ) → text_results (read_text b k text) ≡ text_results (refusing Err (scale_tests t k) (quickly t (scale_of k) (read_fields text)))
 unfolding read_text
 quick {b} {t} e k text =
     ap (λ (u : Table). text_results (read_text u k text)) e
-    ∙ ap (λ (a : TextAnswer). text_results (refusing Refused (scale_tests t k) a)) (quick_fields t (scale_of k) (read_fields text))
+    ∙ ap (λ (a : Result (ℤ × Stamp) Refusal). text_results (refusing Err (scale_tests t k) a)) (quick_fields t (scale_of k) (read_fields text))
 
 -- the last second of 2016, by its day of the year
 end_of_2016 : Right (reads block_b 0 "2016-366T23:59:60" (pos 536500836000000) (at 2016 12 31 23 59 60 0))

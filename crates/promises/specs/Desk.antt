@@ -3,7 +3,7 @@
 -- `pass` answers the same in a row, and beside it by how many seconds a subtraction of the labels is wrong.
 -- And what holds of the answer to every line, whatever it asks for.
 -- Assumes nothing.
-use Rattle.std.specs.Prelude.{◌≡◌, ◌⊎◌, Bool, true, false, ◌||◌, List, [], ◌∷◌, ◌++◌, ℕ, ◌+◌, ◌*◌, ◌≤◌, ℤ, pos, ◌+ℤ◌, ◌-ℤ◌, ◌*ℤ◌, length, ◌≤ℤ◌, ◌<ℤ◌}
+use Rattle.std.specs.Prelude.{◌≡◌, ◌⊎◌, Bool, true, false, ◌||◌, List, [], ◌∷◌, ◌++◌, ℕ, ◌+◌, ◌*◌, ◌≤◌, ℤ, pos, ◌+ℤ◌, ◌-ℤ◌, ◌*ℤ◌, length, ◌≤ℤ◌, ◌<ℤ◌, Some, Ok}
 use Rattle.leap.specs.declared.Table.{Table}
 use Rattle.leap.specs.Leap.{accepted, offset_at}
 use Rattle.leap.specs.Readers.{no_table}
@@ -13,13 +13,11 @@ use Rattle.labels.specs.Labels.{month_of}
 use Rattle.labels.specs.Seconds.{micro_of}
 use Rattle.stamp.specs.declared.Stamp.{Stamp}
 use Rattle.clock.specs.Promise.{Shows}
-use Rattle.text.specs.declared.TextAnswer.TheVariants.{Read}
 use Rattle.text.specs.Promise.{AcceptedAs}
 use Rattle.digits.specs.Bytes.{ascii}
 use Rattle.phrases.specs.Parts.{begins_with}
 use Rattle.phrases.specs.Replies.{answering}
 use Rattle.seconds.specs.Seconds.{seconds_text}
-use Rattle.stampwords.specs.declared.Steps.TheVariants.{Count}
 use Rattle.stampwords.specs.Stamps.{clock_of, stamp_read, beyond_text}
 use Rattle.stampwords.specs.Spans.{steps_in_order, steps_text, between_reply, real_name, cell, pass_reply}
 use Rattle.wording.specs.Wording.{answered}
@@ -47,7 +45,7 @@ Between = (t : Table) (from to : List ℕ) (x y : ℤ) (z w : Stamp) → Accepte
 -- a stamp as the desk gives it, its clock in front of it: that clock is UTC, and it is read as the instant x and the stamp z
 pub record ReadOnUtc (t : Table) (given : List ℕ) (x : ℤ) (z : Stamp) : Type 0 where
   pub on_utc : clock_of given ≡ 0
-  pub read : (stamp_read t given).answer ≡ Read x z
+  pub read : (stamp_read t given).answer ≡ Ok (x, z)
 
 -- one of the two lies beyond the month that the table is vouched for, and the answer ends with these words
 abbrev pub mark_of : Table → List ℕ → List ℕ → List ℕ
@@ -63,9 +61,9 @@ pub record DeskBetween (t : Table) (a b : List ℕ) (x y : ℤ) (z w : Stamp) : 
   pub pass : (name : List ℕ) → real_name name ≡ true
       → pass_reply t name a b ≡ answering (cell name ++ (cell a ++ (cell b ++ (seconds_text (y -ℤ x) ++ (ascii "," ++ (steps_text (steps_in_order t x z y w) ++ mark_of t a b))))))
   -- the steps are TAI-UTC in the later month less that in the earlier one: by so many seconds a subtraction of the labels is wrong, as `by_labels` has it
-  pub steps : x ≤ℤ y → steps_in_order t x z y w ≡ Count (offset_on t w.reading.label -ℤ offset_on t z.reading.label)
+  pub steps : x ≤ℤ y → steps_in_order t x z y w ≡ Some (offset_on t w.reading.label -ℤ offset_on t z.reading.label)
   -- and where the later stamp is given first, the other way round
-  pub steps_back : y <ℤ x → steps_in_order t x z y w ≡ Count (offset_on t z.reading.label -ℤ offset_on t w.reading.label)
+  pub steps_back : y <ℤ x → steps_in_order t x z y w ≡ Some (offset_on t z.reading.label -ℤ offset_on t w.reading.label)
 
 -- for every table and any two stamps on UTC that are read, in either order
 abbrev pub OnTheDesk : Type 0
@@ -91,4 +89,4 @@ pub record DeskAnswers : Type 0 where
   pub stays_accepted : (t : Table) (readable : Bool) (file line : List ℕ) → accepted t ≡ true
       → (accepted (answered t readable file line).table ≡ true) ⊎ ((answered t readable file line).table ≡ no_table)
   -- and without one no stamp is read
-  pub none_reads_no_stamp : (given : List ℕ) (x : ℤ) (z : Stamp) → (stamp_read no_table given).answer ≡ Read x z → ⊥
+  pub none_reads_no_stamp : (given : List ℕ) (x : ℤ) (z : Stamp) → (stamp_read no_table given).answer ≡ Ok (x, z) → ⊥

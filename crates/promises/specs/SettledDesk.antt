@@ -3,13 +3,16 @@
 -- Assumes nothing.
 use Rattle.std.specs.Prelude.{Bool, List, ℕ, ℤ, length}
 use Rattle.answer.specs.declared.Refusal.{Refusal}
+use Rattle.answer.specs.declared.Refusal.TheVariants.{Ask}
+use Rattle.answer.specs.Refusals.{number}
 use Rattle.digits.specs.Decimals.{decimal_text, signed_text}
 use Rattle.lines.specs.Words.{line_of}
 use Rattle.phrases.specs.declared.Said.{Said}
+use Rattle.phrases.specs.declared.Wrong.{Wrong}
 use Rattle.phrases.specs.Puts.{put_end, put_into}
 use Rattle.phrases.specs.Parts.{begins_with, up_to, quoted}
 use Rattle.phrases.specs.Replies.{Reply, refusing_as, refusal}
-use Rattle.phrases.specs.Texts.{months, help, why_text}
+use Rattle.phrases.specs.Texts.{months, help, sentence, why_text}
 use Rattle.leap.specs.declared.Table.{Table}
 use Rattle.seconds.specs.Seconds.{seconds_text, move_given}
 use Rattle.stampwords.specs.Spans.{between_reply, pass_reply}
@@ -28,6 +31,8 @@ use Rattle.phrases.proofs.begins_with.Reads as phrases_begins_with
 use Rattle.phrases.proofs.up_to.Reads as phrases_up_to
 use Rattle.phrases.proofs.refuse_as.Reads as phrases_refuse_as
 use Rattle.phrases.proofs.refuse.Reads as phrases_refuse
+use Rattle.phrases.proofs.refuse_request.Reads as phrases_refuse_request
+use Rattle.phrases.proofs.U32FromWrong.from.Reads as phrases_sentence
 use Rattle.phrases.proofs.put_why.Reads as phrases_put_why
 use Rattle.phrases.proofs.put_month.Reads as phrases_put_month
 use Rattle.phrases.proofs.put_help.Reads as phrases_put_help
@@ -74,6 +79,10 @@ pub record SettledPhrases : Type 0 where
   pub refuse_as : (out : Lent (List ℕ)) (at number sentence : ℕ) (given : Shown (List ℕ)) →
       Leaves phrases_refuse_as.Pre phrases_refuse_as.Post (out & at & number & sentence & given & tt) (λ after. out becomes after & at & number & sentence & given & tt)
       (said_at out.now at (refusing_as number sentence given.now))
+  pub sentence_lem : (wrong : Wrong) → Returns phrases_sentence.Pre phrases_sentence.Post (wrong & tt) (sentence wrong)
+  pub refuse_request : (out : Lent (List ℕ)) (at : ℕ) (wrong : Wrong) (given : Shown (List ℕ)) →
+      Leaves phrases_refuse_request.Pre phrases_refuse_request.Post (out & at & wrong & given & tt) (λ after. out becomes after & at & wrong & given & tt)
+      (said_at out.now at (refusing_as (number Ask) (sentence wrong) given.now))
   pub refuse : (out : Lent (List ℕ)) (at : ℕ) (why : Refusal) (given : Shown (List ℕ)) →
       Leaves phrases_refuse.Pre phrases_refuse.Post (out & at & why & given & tt) (λ after. out becomes after & at & why & given & tt) (said_at out.now at (refusal why given.now))
   pub put_why : (out : Lent (List ℕ)) (at number : ℕ) →
@@ -90,28 +99,28 @@ pub record SettledSeconds : Type 0 where
 
 -- the line, or the part of it, that is at fault is quoted
 pub record SettledStampwords : Type 0 where
-  pub say_between : (t : Table) (a b : Shown (List ℕ)) (out : Lent (List ℕ)) (at : ℕ) →
+  pub say_between : (t : Shown Table) (a b : Shown (List ℕ)) (out : Lent (List ℕ)) (at : ℕ) →
       Leaves stampwords_say_between.Pre stampwords_say_between.Post (t & a & b & out & at & tt) (λ after. t & a & b & out becomes after & at & tt)
-      (said_at out.now at (between_reply t a.now b.now))
-  pub say_pass : (t : Table) (name a b : Shown (List ℕ)) (out : Lent (List ℕ)) (at : ℕ) →
+      (said_at out.now at (between_reply t.now a.now b.now))
+  pub say_pass : (t : Shown Table) (name a b : Shown (List ℕ)) (out : Lent (List ℕ)) (at : ℕ) →
       Leaves stampwords_say_pass.Pre stampwords_say_pass.Post (t & name & a & b & out & at & tt) (λ after. t & name & a & b & out becomes after & at & tt)
-      (said_at out.now at (pass_reply t name.now a.now b.now))
-  pub say_show : (t : Table) (line given clock : Shown (List ℕ)) (out : Lent (List ℕ)) (at : ℕ) →
+      (said_at out.now at (pass_reply t.now name.now a.now b.now))
+  pub say_show : (t : Shown Table) (line given clock : Shown (List ℕ)) (out : Lent (List ℕ)) (at : ℕ) →
       Leaves stampwords_say_show.Pre stampwords_say_show.Post (t & line & given & clock & out & at & tt) (λ after. t & line & given & clock & out becomes after & at & tt)
-      (said_at out.now at (show_reply t line.now given.now clock.now))
-  pub say_after : (t : Table) (line given : Shown (List ℕ)) (out : Lent (List ℕ)) (at : ℕ) →
+      (said_at out.now at (show_reply t.now line.now given.now clock.now))
+  pub say_after : (t : Shown Table) (line given : Shown (List ℕ)) (out : Lent (List ℕ)) (at : ℕ) →
       Leaves stampwords_say_after.Pre stampwords_say_after.Post (t & line & given & out & at & tt) (λ after. t & line & given & out becomes after & at & tt)
-      (said_at out.now at (after_reply t line.now given.now))
-  pub say_add : (t : Table) (line by given : Shown (List ℕ)) (out : Lent (List ℕ)) (at : ℕ) →
+      (said_at out.now at (after_reply t.now line.now given.now))
+  pub say_add : (t : Shown Table) (line by given : Shown (List ℕ)) (out : Lent (List ℕ)) (at : ℕ) →
       Leaves stampwords_say_add.Pre stampwords_say_add.Post (t & line & by & given & out & at & tt) (λ after. t & line & by & given & out becomes after & at & tt)
-      (said_at out.now at (add_reply t line.now by.now given.now))
+      (said_at out.now at (add_reply t.now line.now by.now given.now))
 
 -- a refused block, kernel or file of cards leaves no table, a refused month the table as it was
 pub record SettledTablewords : Type 0 where
-  pub put_entries : (t : Table) (out : Lent (List ℕ)) (at : ℕ) →
-      Leaves tablewords_put_entries.Pre tablewords_put_entries.Post (t & out & at & tt) (λ after. t & out becomes after & at & tt) (put_at out.now at (entries_text t))
-  pub put_words : (t : Table) (out : Lent (List ℕ)) (at : ℕ) →
-      Leaves tablewords_put_words.Pre tablewords_put_words.Post (t & out & at & tt) (λ after. t & out becomes after & at & tt) (put_at out.now at (table_words t))
+  pub put_entries : (t : Shown Table) (out : Lent (List ℕ)) (at : ℕ) →
+      Leaves tablewords_put_entries.Pre tablewords_put_entries.Post (t & out & at & tt) (λ after. t & out becomes after & at & tt) (put_at out.now at (entries_text t.now))
+  pub put_words : (t : Shown Table) (out : Lent (List ℕ)) (at : ℕ) →
+      Leaves tablewords_put_words.Pre tablewords_put_words.Post (t & out & at & tt) (λ after. t & out becomes after & at & tt) (put_at out.now at (table_words t.now))
   pub load_block_lem : (hex : Shown (List ℕ)) (out : Lent (List ℕ)) (at : ℕ) →
       Leaves tablewords_load_block.Pre tablewords_load_block.Post (hex & out & at & tt) (λ after. hex & out becomes after & at & tt)
       (loaded_at out.now at (load_block hex.now))
@@ -121,15 +130,15 @@ pub record SettledTablewords : Type 0 where
   pub load_cards_lem : (given : Shown (List ℕ)) (readable : Bool) (file : Shown (List ℕ)) (out : Lent (List ℕ)) (at : ℕ) →
       Leaves tablewords_load_cards.Pre tablewords_load_cards.Post (given & readable & file & out & at & tt) (λ after. given & readable & file & out becomes after & at & tt)
       (loaded_at out.now at (load_cards given.now readable file.now))
-  pub vouch : (t : Table) (month : Shown (List ℕ)) (out : Lent (List ℕ)) (at : ℕ) →
+  pub vouch : (t : Shown Table) (month : Shown (List ℕ)) (out : Lent (List ℕ)) (at : ℕ) →
       Leaves tablewords_vouch.Pre tablewords_vouch.Post (t & month & out & at & tt) (λ after. t & month & out becomes after & at & tt)
-      (loaded_at out.now at (vouch_for t month.now))
+      (loaded_at out.now at (vouch_for t.now month.now))
 
 -- the answer to a line with the table from then on, the part of a line that names a file, and the last line
 pub record SettledWording : Type 0 where
-  pub answer : (line : Shown (List ℕ)) (t : Table) (readable : Bool) (file : Shown (List ℕ)) (out : Lent (List ℕ)) (at : ℕ) →
+  pub answer : (line : Shown (List ℕ)) (t : Shown Table) (readable : Bool) (file : Shown (List ℕ)) (out : Lent (List ℕ)) (at : ℕ) →
       Leaves wording_answer.Pre wording_answer.Post (line & t & readable & file & out & at & tt) (λ after. line & t & readable & file & out becomes after & at & tt)
-      (loaded_at out.now at (answered t readable file.now line.now))
+      (loaded_at out.now at (answered t.now readable file.now line.now))
   pub file_of_lem : (line : Shown (List ℕ)) → Returns wording_file_of.Pre wording_file_of.Post (line & tt) (file_of line.now)
   pub summary : (count bad : ℕ) (first : Shown (List ℕ)) (out : Lent (List ℕ)) (at : ℕ) →
       Leaves wording_summary.Pre wording_summary.Post (count & bad & first & out & at & tt) (λ after. count & bad & first & out becomes after & at & tt)

@@ -45,8 +45,8 @@ use Rattle.mundreff.proofs.mundreff_tick_in_place.Reads as c_tick_in_place
 pub record SettledInC : Type 0 where
   -- a table out of its words, and back
   pub table_of : (words : Shown (List ℕ)) → Returns words_table_of.Pre words_table_of.Post (words & tt) (table_from words.now)
-  pub table_stored : (t : Table) (out : Lent (List ℕ)) →
-      Leaves words_store_table.Pre words_store_table.Post (t & out & tt) (λ words. t & out becomes words & tt) (tt, table_words t)
+  pub table_stored : (t : Shown Table) (out : Lent (List ℕ)) →
+      Leaves words_store_table.Pre words_store_table.Post (t & out & tt) (λ words. t & out becomes words & tt) (tt, table_words t.now)
   pub bulletin_c_lem : (table : Lent (List ℕ)) → Leaves c_bulletin_c.Pre c_bulletin_c.Post (table & tt) (λ words. table becomes words & tt) (0, table_words bulletin_c)
   pub read_block_lem : (block : Shown (List ℕ)) (place : Lent ℕ) (table : Lent (List ℕ)) →
       LeavesTwo c_read_block.Pre c_read_block.Post (block & place & table & tt) (λ at words. block & place becomes at & table becomes words & tt)

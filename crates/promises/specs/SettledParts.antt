@@ -1,11 +1,18 @@
 -- What the crates ask of each other is settled too: every other public function, by its own contract.
 -- Assumes nothing.
-use Rattle.std.specs.Prelude.{List, [], ◌∷◌, Bool, false, cond, ◌&&◌, ℕ, ◌+◌, ◌-◌, ◌^◌, min, ℤ, nat_abs, eqb, Float, length, drop, get_or}
+use mathlib.Core.List.{Mem}
+use base.Fml.{Lft}
+use denote.Param.Laws.{Laws, IsCopy}
+use denote.RattleType.{RattleType}
+use mir.Syntax.{Dict}
+use Rattle.std.specs.Prelude.{List, [], ◌∷◌, Bool, false, cond, ◌&&◌, ℕ, ◌+◌, ◌-◌, ◌^◌, min, ℤ, nat_abs, eqb, Float, length, drop, get_or, Result, Err}
+use Rattle.std.specs.declared.clone.Clone.{Ghosts as CloneGhosts}
 use Rattle.std.specs.Float.{binary64}
 use Rattle.std.specs.Float.Ieee.{of_bits, to_bits}
 use Rattle.answer.specs.declared.Refusal.{Refusal}
 use Rattle.answer.specs.Refusals.{number}
-use Rattle.answer.specs.Marks.{marks}
+use Rattle.answer.specs.Faults.{unplaced}
+use Rattle.answer.specs.Marks.{marked, marks}
 use Rattle.answer.specs.Buffers.{written, buffer_after}
 use Rattle.columns.specs.Columns.{all_blank, passed_over}
 use Rattle.columns.specs.Decimals.{decimal_in, whole_of}
@@ -17,7 +24,7 @@ use Rattle.calendar.specs.Days.{day_of_year}
 use Rattle.calendar.specs.Dates.{span_of_day, date_in_year}
 use Rattle.leap.specs.declared.Table.{Table}
 use Rattle.leap.specs.Leap.{tabled, vouched_to, vouched_right, accepted, offset_at, near_at, beyond}
-use Rattle.leap.specs.Readers.{found, refused_at, judged as judged_table}
+use Rattle.leap.specs.Readers.{no_table, judged as judged_table}
 use Rattle.block.specs.Reading.{read_either}
 use Rattle.labels.specs.declared.Label.{Label}
 use Rattle.labels.specs.declared.Reading.{Reading}
@@ -26,12 +33,11 @@ use Rattle.labels.specs.Labels.{month_of, judged, in_last_minute, minute_in}
 use Rattle.labels.specs.Lengths.{seconds_in}
 use Rattle.labels.specs.Back.{day_of, label_of}
 use Rattle.stamp.specs.declared.Scale.{Scale}
-use Rattle.stamp.specs.declared.InstantAnswer.TheVariants.{Refused as NoInstant}
 use Rattle.stamp.specs.declared.DayStart.{DayStart}
-use Rattle.stamp.specs.Scales.{scale_of, scale_number, asked, offsets_of}
+use Rattle.stamp.specs.Scales.{scale_of, scale_number, scale_known, asked, offsets_of}
 use Rattle.stamp.specs.Days.{day_on}
 use Rattle.stamp.specs.Stamps.{instant_in}
-use Rattle.stamp.specs.Marks.{beyond_on, marked_instant, stamp_of_marked, shown_of_marked, instant_on_marked}
+use Rattle.stamp.specs.Marks.{beyond_on, stamp_of_marked, shown_of_marked, instant_on_marked}
 use Rattle.fraction.specs.Fraction.{fraction_of, is_fraction, is_half, nearest_at}
 use Rattle.kinds.specs.Kinds.{is_white, is_gap, is_between, is_run, is_name, upper, begin_data, begin_text, ours}
 use Rattle.kinds.specs.Parts.{matched, grown, years_begin, grown_year, month_on, month_number}
@@ -44,12 +50,14 @@ use Rattle.lines.specs.Words.{before, leading, is_blank, past, line_start}
 use Rattle.lines.specs.Cuts.{piece_at, cut_at, held_in}
 use Rattle.lines.specs.Pairs.{nibble, hex_of, hex_into, hex_shown}
 use Rattle.fields.specs.declared.Cursor.{Cursor}
-use Rattle.fields.specs.declared.U32Field.{U32Field}
-use Rattle.fields.specs.declared.I32Field.{I32Field}
+use Rattle.fields.specs.declared.Field.{Field}
 use Rattle.fields.specs.Words.{word_at}
 use Rattle.fields.specs.Fields.{natural_at, integer_at, hex_at, pattern_at}
-use Rattle.laws.specs.Settles.{◌&◌, Lent, Shown, ◌becomes◌, Returns, Leaves}
-use Rattle.answer.proofs.number_of.Reads as answer_number_of
+use Rattle.laws.specs.Settles.{◌&◌, Lent, Shown, ◌becomes◌, Settles, Returns, Leaves}
+use Rattle.answer.proofs.U32FromRefusal.from.Reads as answer_number_of
+use Rattle.answer.proofs.FaultFromRefusal.from.Reads as answer_fault_from
+use Rattle.answer.proofs.Marked.new.Reads as answer_marked_new
+use Rattle.answer.proofs.Marked.refused.Reads as answer_marked_refused
 use Rattle.answer.proofs.marks_of.Reads as answer_marks_of
 use Rattle.answer.proofs.write.Reads as answer_write
 use Rattle.digits.proofs.byte_at.Reads as digits_byte_at
@@ -69,15 +77,14 @@ use Rattle.calendar.proofs.month_length.Reads as calendar_month_length
 use Rattle.calendar.proofs.month_of_day.Reads as calendar_month_of_day
 use Rattle.calendar.proofs.day_of_year.Reads as calendar_day_of_year
 use Rattle.calendar.proofs.date_in_year.Reads as calendar_date_in_year
-use Rattle.leap.proofs.tabled.Reads as leap_tabled
-use Rattle.leap.proofs.found.Reads as leap_found
-use Rattle.leap.proofs.refused_at.Reads as leap_refused_at
+use Rattle.leap.proofs.Table.new.Reads as leap_tabled
+use Rattle.leap.proofs.Table.empty.Reads as leap_empty
 use Rattle.leap.proofs.judge.Reads as leap_judge
-use Rattle.leap.proofs.is_accepted_in.Reads as leap_is_accepted_in
+use Rattle.leap.proofs.Table.is_accepted.Reads as leap_is_accepted
 use Rattle.leap.proofs.vouched_right.Reads as leap_vouched_right
 use Rattle.leap.proofs.beyond.Reads as leap_beyond
-use Rattle.leap.proofs.offset_at.Reads as leap_offset_at
-use Rattle.leap.proofs.near.Reads as leap_near
+use Rattle.leap.proofs.Table.offset_at.Reads as leap_offset_at
+use Rattle.leap.proofs.Table.near.Reads as leap_near
 use Rattle.block.proofs.read_either.Reads as block_read_either
 use Rattle.labels.proofs.month_of.Reads as labels_month_of
 use Rattle.labels.proofs.judge.Reads as labels_judge
@@ -87,15 +94,15 @@ use Rattle.labels.proofs.day_seconds.Reads as labels_day_seconds
 use Rattle.labels.proofs.day_of.Reads as labels_day_of
 use Rattle.labels.proofs.label_of.Reads as labels_label_of
 use Rattle.stamp.proofs.Scale.numbered.Reads as stamp_scale_numbered
-use Rattle.stamp.proofs.Scale.number.Reads as stamp_scale_number
-use Rattle.stamp.proofs.beyond_on.Reads as stamp_beyond_on
-use Rattle.stamp.proofs.refused_instant.Reads as stamp_refused_instant
+use Rattle.stamp.proofs.U32FromScale.from.Reads as stamp_scale_number
+use Rattle.stamp.proofs.Scale.beyond_on.Reads as stamp_beyond_on
+use Rattle.stamp.proofs.ScaleTryFromU32.try_from.Reads as stamp_scale_known
 use Rattle.stamp.proofs.asked.Reads as stamp_asked
-use Rattle.stamp.proofs.instant_in.Reads as stamp_instant_in
-use Rattle.stamp.proofs.stamp_of_in.Reads as stamp_stamp_of_in
+use Rattle.stamp.proofs.Scale.instant_in.Reads as stamp_instant_in
+use Rattle.stamp.proofs.stamp_of.Reads as stamp_stamp_of_in
 use Rattle.stamp.proofs.shown_of.Reads as stamp_shown_of
-use Rattle.stamp.proofs.day_on.Reads as stamp_day_on
-use Rattle.stamp.proofs.instant_on.Reads as stamp_instant_on
+use Rattle.stamp.proofs.Scale.day_on.Reads as stamp_day_on
+use Rattle.stamp.proofs.Scale.instant_on.Reads as stamp_instant_on
 use Rattle.fraction.proofs.fraction_of.Reads as fraction_fraction_of
 use Rattle.fraction.proofs.is_fraction.Reads as fraction_is_fraction
 use Rattle.fraction.proofs.is_half.Reads as fraction_is_half
@@ -145,11 +152,14 @@ use Rattle.fields.proofs.pattern.Reads as fields_pattern
 -- refusals and buffers; months, dates, labels and scales; parts of a whole
 pub record SettledParts : Type 0 where
   pub refusal_number : (why : Refusal) → Returns answer_number_of.Pre answer_number_of.Post (why & tt) (number why)
+  pub fault : (why : Refusal) → Returns answer_fault_from.Pre answer_fault_from.Post (why & tt) (unplaced why)
   pub marks_of : (beyond : Bool) → Returns answer_marks_of.Pre answer_marks_of.Post (beyond & tt) (marks beyond)
   pub write : (bytes : Shown (List ℕ)) (out : Lent (List ℕ)) →
       Leaves answer_write.Pre answer_write.Post (bytes & out & tt) (λ after. bytes & out becomes after & tt)
       (written [] bytes.now out.now, buffer_after [] bytes.now out.now)
-  pub refused_at_lem : (why : Refusal) (at : ℕ) → Returns leap_refused_at.Pre leap_refused_at.Post (why & at & tt) (refused_at why at)
+  pub tabled : (count : ℕ) (months : List ℕ) (offsets : List ℤ) (vouched : ℕ) →
+      Returns leap_tabled.Pre leap_tabled.Post (count & months & offsets & vouched & tt) (vouched_to vouched (tabled count months offsets))
+  pub no_table_lem : Returns leap_empty.Pre leap_empty.Post tt no_table
   pub days_before_lem : (m : ℕ) → Returns months_days_before.Pre months_days_before.Post (m & tt) (days_before m)
   pub month_length_lem : (m : ℕ) → Returns calendar_month_length.Pre calendar_month_length.Post (m & tt) (month_length m)
   pub month_of_day_lem : (day : ℕ) → Returns calendar_month_of_day.Pre calendar_month_of_day.Post (day & tt) (span_of_day day)
@@ -167,7 +177,7 @@ pub record SettledParts : Type 0 where
   pub label_of_lem : (p : Place) → Returns labels_label_of.Pre labels_label_of.Post (p & tt) (label_of p)
   pub scale_numbered : (k : ℕ) → Returns stamp_scale_numbered.Pre stamp_scale_numbered.Post (k & tt) (scale_of k)
   pub scale_number_lem : (s : Scale) → Returns stamp_scale_number.Pre stamp_scale_number.Post (s & tt) (scale_number s)
-  pub refused_instant : (why : Refusal) → Returns stamp_refused_instant.Pre stamp_refused_instant.Post (why & tt) (marked_instant (NoInstant why) false)
+  pub scale_known_lem : (k : ℕ) → Returns stamp_scale_known.Pre stamp_scale_known.Post (k & tt) (scale_known k)
   pub beyond_on_lem : (s : Scale) (v m : ℕ) → Returns stamp_beyond_on.Pre stamp_beyond_on.Post (s & v & m & tt) (beyond_on v s m)
   pub instant_on : (s : Scale) (v : ℕ) (day : DayStart) (micro : ℕ) → Returns stamp_instant_on.Pre stamp_instant_on.Post (s & v & day & micro & tt) (instant_on_marked v s day micro)
   pub fraction_of_lem : (part whole : ℕ) → Returns fraction_fraction_of.Pre fraction_fraction_of.Post (part & whole & tt) (fraction_of whole part)
@@ -175,26 +185,31 @@ pub record SettledParts : Type 0 where
   pub is_half_lem : (x : Float) → Returns fraction_is_half.Pre fraction_is_half.Post (x & tt) (is_half x)
   pub nearest_of_lem : (x : Float) (factor shift : ℕ) → Returns fraction_nearest_of.Pre fraction_nearest_of.Post (x & factor & shift & tt) (nearest_at factor shift x)
 
--- what is asked of a table whose two arrays are lent: where it is judged, with its month; and past that of its entries alone
-module _ (count : ℕ) (months : Shown (List ℕ)) (offsets : Shown (List ℤ)) (vouched : ℕ) where
-  abbrev entered : Table
-  entered = tabled count months.now offsets.now
+-- What is asked of a generic function at a type whose values are copied. It asks for nothing but that the borrows in such a value, if it has any, last as long as the call.
+module _ (T : RattleType) (laws : Laws T) (copied : IsCopy T) (cloned : CloneGhosts T.Denot) (dict : Dict) where
+  abbrev ReturnsAt : {A R : RattleType → Type 0}
+      → ((U : RattleType) → Laws U → IsCopy U → CloneGhosts U.Denot → Dict → Lft × Unit {0} → A U → Type 0)
+      → ((U : RattleType) → Laws U → IsCopy U → CloneGhosts U.Denot → Dict → Lft × Unit {0} → A U → R U → A U → Type 0) → A T → R T → Type 0
+  ReturnsAt pre post arguments answer =
+      (lifetimes : Lft × Unit {0}) → ((k : ℕ) → Mem k T.lives → Mem k lifetimes.0)
+      → Settles (pre T laws copied cloned dict lifetimes arguments) (λ r. post T laws copied cloned dict lifetimes arguments r arguments) answer
 
-  abbrev table : Table
-  table = vouched_to vouched entered
+  pub record SettledMarks : Type 0 where
+    pub new : (answer : Result T.Denot Refusal) (beyond : Bool) → ReturnsAt answer_marked_new.Pre answer_marked_new.Post (answer & beyond & tt) (marked answer beyond)
+    pub refused : (why : Refusal) → ReturnsAt answer_marked_refused.Pre answer_marked_refused.Post (why & tt) (marked {A = T.Denot} (Err why) false)
 
+-- what is asked of a table that is lent
+module _ (t : Shown Table) where
   pub record SettledTables : Type 0 where
-    pub tabled : Returns leap_tabled.Pre leap_tabled.Post (count & months & offsets & vouched & tt) table
-    pub found : Returns leap_found.Pre leap_found.Post (count & months & offsets & vouched & tt) (found table)
-    pub is_accepted : Returns leap_is_accepted_in.Pre leap_is_accepted_in.Post (count & months & offsets & vouched & tt) (accepted table)
-    pub judge : Returns leap_judge.Pre leap_judge.Post (count & months & offsets & tt) (judged_table entered)
-    pub offset_at : (m : ℕ) → Returns leap_offset_at.Pre leap_offset_at.Post (count & months & offsets & m & tt) (offset_at entered m)
-    pub near : (m : ℕ) → Returns leap_near.Pre leap_near.Post (count & months & offsets & m & tt) (near_at entered m)
-    pub asked : (scale : ℕ) → Returns stamp_asked.Pre stamp_asked.Post (count & months & offsets & vouched & scale & tt) (asked table scale)
-    pub instant_in_lem : (s : Scale) (r : Reading) → Returns stamp_instant_in.Pre stamp_instant_in.Post (s & count & months & offsets & r & tt) (instant_in entered s r)
-    pub stamp_of_lem : (instant : ℤ) (scale : ℕ) → Returns stamp_stamp_of_in.Pre stamp_stamp_of_in.Post (count & months & offsets & vouched & instant & scale & tt) (stamp_of_marked table instant scale)
-    pub shown_of : (instant : ℤ) (scale : ℕ) → Returns stamp_shown_of.Pre stamp_shown_of.Post (count & months & offsets & vouched & instant & scale & tt) (shown_of_marked table instant scale)
-    pub day_on_lem : (s : Scale) (day : ℕ) → Returns stamp_day_on.Pre stamp_day_on.Post (s & count & months & offsets & day & tt) (day_on (offsets_of entered s) day)
+    pub is_accepted : Returns leap_is_accepted.Pre leap_is_accepted.Post (t & tt) (accepted t.now)
+    pub judge : Returns leap_judge.Pre leap_judge.Post (t & tt) (judged_table t.now)
+    pub offset_at : (m : ℕ) → Returns leap_offset_at.Pre leap_offset_at.Post (t & m & tt) (offset_at t.now m)
+    pub near : (m : ℕ) → Returns leap_near.Pre leap_near.Post (t & m & tt) (near_at t.now m)
+    pub asked : (scale : ℕ) → Returns stamp_asked.Pre stamp_asked.Post (t & scale & tt) (asked t.now scale)
+    pub instant_in_lem : (s : Scale) (r : Reading) → Returns stamp_instant_in.Pre stamp_instant_in.Post (s & t & r & tt) (instant_in t.now s r)
+    pub stamp_of_lem : (instant : ℤ) (scale : ℕ) → Returns stamp_stamp_of_in.Pre stamp_stamp_of_in.Post (t & instant & scale & tt) (stamp_of_marked t.now instant scale)
+    pub shown_of : (instant : ℤ) (scale : ℕ) → Returns stamp_shown_of.Pre stamp_shown_of.Post (t & instant & scale & tt) (shown_of_marked t.now instant scale)
+    pub day_on_lem : (s : Scale) (day : ℕ) → Returns stamp_day_on.Pre stamp_day_on.Post (s & t & day & tt) (day_on (offsets_of t.now s) day)
 
 -- bytes: digits, pictures, lines and their fields
 pub record SettledBytes : Type 0 where
@@ -245,11 +260,11 @@ pub record SettledBytes : Type 0 where
   pub ended : (line : Shown (List ℕ)) (c : Cursor) → Returns fields_ended.Pre fields_ended.Post (line & c & tt) (c.fine && eqb c.at (length line.now))
   pub number_field : (line : Shown (List ℕ)) (c : Cursor) (most : ℕ) → Returns fields_number_field.Pre fields_number_field.Post (line & c & most & tt) (natural_at most line.now c)
   pub u32_field_lem : (line : Shown (List ℕ)) (c : Cursor) →
-      Returns {R = U32Field} fields_u32_field.Pre fields_u32_field.Post (line & c & tt)
+      Returns {R = Field ℕ} fields_u32_field.Pre fields_u32_field.Post (line & c & tt)
       (record { value = (natural_at (2 ^ 32 - 1) line.now c).value; next = (natural_at (2 ^ 32 - 1) line.now c).next })
   pub i64_field : (line : Shown (List ℕ)) (c : Cursor) → Returns fields_i64_field.Pre fields_i64_field.Post (line & c & tt) (integer_at (2 ^ 63 - 1) line.now c)
   pub i32_field_lem : (line : Shown (List ℕ)) (c : Cursor) →
-      Returns {R = I32Field} fields_i32_field.Pre fields_i32_field.Post (line & c & tt)
+      Returns {R = Field ℤ} fields_i32_field.Pre fields_i32_field.Post (line & c & tt)
       (record { value = (integer_at (2 ^ 31 - 1) line.now c).value; next = (integer_at (2 ^ 31 - 1) line.now c).next })
   pub hex_field : (line : Shown (List ℕ)) (c : Cursor) (out : Lent (List ℕ)) →
       Leaves fields_hex_field.Pre fields_hex_field.Post (line & c & out & tt) (λ after. line & c & out becomes after & tt)

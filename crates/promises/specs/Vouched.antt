@@ -3,7 +3,7 @@
 -- vouched month before the last entry or past 96,335."
 -- Which tables are accepted with a month is `Vouched` of crates/leap/specs/Promise.antt; here are the marks of the calls, both ways, and that a month changes no answer.
 -- Assumes nothing.
-use Rattle.std.specs.Prelude.{◌≡◌, ◌↔◌, true, false, List, ℕ, ℤ, pos}
+use Rattle.std.specs.Prelude.{◌≡◌, ◌↔◌, true, false, List, ℕ, ℤ, pos, Ok}
 use Rattle.answer.specs.Buffers.{written_results}
 use Rattle.leap.specs.declared.Table.{Table}
 use Rattle.leap.specs.Leap.{vouched_to, without_month, accepted, bulletin_c}
@@ -15,11 +15,9 @@ use Rattle.labels.specs.declared.Reading.{Reading}
 use Rattle.labels.specs.Labels.{label, at, month_of}
 use Rattle.stamp.specs.declared.Scale.TheVariants.{Utc, Tai}
 use Rattle.stamp.specs.declared.Stamp.{Stamp}
-use Rattle.stamp.specs.declared.StampAnswer.TheVariants.{Stamped}
 use Rattle.stamp.specs.Stamps.{instant_of, instant_results, stamp_of, stamp_results, no_stamp}
 use Rattle.stamp.specs.Marks.{instant_of_marked, stamp_of_marked}
 use Rattle.stamp.specs.Promise.{Reads, stamp, GivesInstant, GivesStamp}
-use Rattle.clock.specs.declared.TickAnswer.TheVariants.{Next}
 use Rattle.clock.specs.Clock.{start, tick, tick_results}
 use Rattle.clock.specs.Marks.{start_marked, tick_marked}
 use Rattle.block.specs.declared.Form.TheVariants.{Old}
@@ -96,10 +94,10 @@ abbrev pub until2017 : Table
 until2017 = vouched_to 541 bulletin_c
 
 pub record VouchedDesk : Type 0 where
-  pub last_microsecond : stamp_of_marked until2017 (pos 539179236999999) 0 ≡ record { answer = Stamped (stamp Utc (at 2017 1 31 23 59 59 999999)); beyond = false }
-  pub first_midnight_lem : stamp_of_marked until2017 (pos 539179237000000) 0 ≡ record { answer = Stamped (stamp Utc (at 2017 2 1 0 0 0 0)); beyond = true }
-  pub on_tai : stamp_of_marked until2017 (pos 539179237000000) 1 ≡ record { answer = Stamped (stamp Tai (at 2017 2 1 0 0 37 0)); beyond = false }
-  pub new_label : tick_marked until2017 (label 2017 1 31 23 59 59) ≡ record { answer = Next (label 2017 2 1 0 0 0); beyond = true }
+  pub last_microsecond : stamp_of_marked until2017 (pos 539179236999999) 0 ≡ record { answer = Ok (stamp Utc (at 2017 1 31 23 59 59 999999)); beyond = false }
+  pub first_midnight_lem : stamp_of_marked until2017 (pos 539179237000000) 0 ≡ record { answer = Ok (stamp Utc (at 2017 2 1 0 0 0 0)); beyond = true }
+  pub on_tai : stamp_of_marked until2017 (pos 539179237000000) 1 ≡ record { answer = Ok (stamp Tai (at 2017 2 1 0 0 37 0)); beyond = false }
+  pub new_label : tick_marked until2017 (label 2017 1 31 23 59 59) ≡ record { answer = Ok (label 2017 2 1 0 0 0); beyond = true }
   pub month_too_early : stamp_results (stamp_of (vouched_to 540 bulletin_c) (pos 0) 1) ≡ (11, no_stamp)
   pub scale_comes_first : stamp_results (stamp_of (vouched_to 540 bulletin_c) (pos 0) 4) ≡ (8, no_stamp)
 

@@ -8,6 +8,7 @@ use native.Mathlib.Omega.{arith}
 use lib.IntN.{ℤ, pos, ◌+ℤ◌}
 use borrow.Author.Tests.{eqb-true, eqb-false, le-leb}
 use lib.Dec.{eqb, leb}
+use Rattle.std.specs.Prelude.{Ok, Err}
 use Rattle.laws.proofs.Cases.{by_test}
 use Rattle.laws.proofs.Difference.{up, down, sum_is, eq_from}
 use Rattle.answer.specs.declared.Refusal.TheVariants.{Range as RANGE}
@@ -26,7 +27,6 @@ use Rattle.labels.proofs.Lengths.{label_falls, next_midnight}
 use Rattle.labels.proofs.Years.{days_end, years_to}
 use Rattle.stamp.specs.declared.Scale.{Scale}
 use Rattle.stamp.specs.declared.DayStart.{DayStart}
-use Rattle.stamp.specs.declared.InstantAnswer.TheVariants.{At, Refused}
 use Rattle.stamp.specs.Scales.{offsets_of, to_instant, to_axis, instant_for}
 use Rattle.stamp.specs.Back.{in_range}
 use Rattle.stamp.specs.Days.{day_start, longest, instant_after, instant_on}
@@ -50,7 +50,7 @@ instant_by_day t s r low high =
     ap₂ (λ (n m : ℕ). to_instant s (axis_at n (offsets_of t s m))) u (label_falls r.label low high)
 
 -- from 1972 on, and with no more than a day's microseconds, only the last day is asked
-pub on_day : (s : Scale) (b : DayStart) (u : ℕ) → first_day ≤ b.number → u ≤ longest → instant_on s b u ≡ refusing Refused ((leb b.number last_day, RANGE) ∷ []) (At (instant_after s b u))
+pub on_day : (s : Scale) (b : DayStart) (u : ℕ) → first_day ≤ b.number → u ≤ longest → instant_on s b u ≡ refusing Err ((leb b.number last_day, RANGE) ∷ []) (Ok (instant_after s b u))
 unfolding instant_on
 on_day s b u l h = rw (le-leb first_day b.number l, le-leb u longest h)
 

@@ -9,12 +9,13 @@ use native.Mathlib.Omega.{arith}
 use borrow.Author.Tests.{le-leb, leb-true}
 use lib.Dec.{leb}
 use lib.IntN.{ℤ, pos, nat_abs}
+use Rattle.std.specs.Prelude.{Result, Ok, Err}
 use Rattle.laws.proofs.Cases.{by_test, and_l, and_r, join}
 use Rattle.laws.proofs.Offsets.{Steps}
 use Rattle.answer.specs.declared.Refusal.{Refusal}
 use Rattle.answer.specs.declared.Refusal.TheVariants.{Range as RANGE, Ask as ASK, Table as TABLE}
 use Rattle.answer.specs.Refusals.{refusing}
-use Rattle.answer.proofs.Orders.{refused, none_refused, was_passed, number_some}
+use Rattle.answer.proofs.Orders.{refused, none_refused, number_some}
 use Rattle.leap.specs.declared.Table.{Table}
 use Rattle.leap.specs.Leap.{accepted}
 use Rattle.leap.proofs.Facts.{Accepted, accepted_to}
@@ -29,14 +30,11 @@ use Rattle.labels.proofs.Years.{axis_second, covered_to, covered_from}
 use Rattle.labels.proofs.Labelled.{At, at_covered, at_label, standing, label_at_lem}
 use Rattle.stamp.specs.declared.Scale.{Scale}
 use Rattle.stamp.specs.declared.Stamp.{Stamp}
-use Rattle.stamp.specs.declared.InstantAnswer.{InstantAnswer}
-use Rattle.stamp.specs.declared.InstantAnswer.TheVariants.{At as InstantAt, Refused as NoInstant}
-use Rattle.stamp.specs.declared.StampAnswer.{StampAnswer}
-use Rattle.stamp.specs.declared.StampAnswer.TheVariants.{Stamped, Refused as NoStamp}
 use Rattle.stamp.specs.Scales.{scale_of, scale_tests, offsets_of, most_second, to_instant, to_axis, instant_for}
 use Rattle.stamp.specs.Back.{in_range, axis_count, stamp_at}
 use Rattle.stamp.specs.Stamps.{instant_of, instant_results, stamp_of, stamp_results}
 use Rattle.stamp.specs.Promise.{Reads, stamp, Converts}
+use Rattle.stamp.proofs.First.{was_given, same_given}
 use Rattle.stamp.proofs.Scales.{steps, most_of, axis_back, instant_back as axis_instant}
 use Rattle.stamp.proofs.Ranges.{range_low, range_high, near_axis, count_in_years}
 
@@ -134,60 +132,48 @@ module _ (t : Table) (good : accepted t ≡ true) (s : Scale) where
 
 -- ---- the calls
 
-no_instant : (x : ℤ) (why : Refusal) → NoInstant why ≡ InstantAt x → ⊥
-no_instant x why e = let z : ◌≡◌ {A = ℕ} 0 1 = cc in omega arith
-
-no_stamp : (z : Stamp) (why : Refusal) → NoStamp why ≡ Stamped z → ⊥
-no_stamp z why e = let z : ◌≡◌ {A = ℕ} 0 1 = cc in omega arith
-
 module _ (t : Table) (k : ℕ) where
   -- what an answer that is no refusal says
-  pub instant_given : (r : Reading) (x : ℤ) → instant_of t k r ≡ InstantAt x → (leb k 3 ≡ true) × ((accepted t ≡ true) × Reads t (scale_of k) r x)
+  pub instant_given : (r : Reading) (x : ℤ) → instant_of t k r ≡ Ok x → (leb k 3 ≡ true) × ((accepted t ≡ true) × Reads t (scale_of k) r x)
   unfolding instant_of
   instant_given r x e =
-      let p = was_passed NoInstant (scale_tests t k) _ (InstantAt x) (no_instant x) e in
-      let q = was_passed NoInstant (label_tests (offsets_of t (scale_of k)) (most_second (scale_of k)) r) _ (InstantAt x) (no_instant x) p.1 in
-      (and_l (leb k 3) _ p.0, (search (and_l, and_r), record { is_admitted = q.0; instant_is = at q.1 }))
-    where
-      at : {y : ℤ} → InstantAt y ≡ InstantAt x → y ≡ x
-      at q = cc
+      let p = was_given (scale_tests t k) x e in
+      let q = was_given (label_tests (offsets_of t (scale_of k)) (most_second (scale_of k)) r) x p.1 in
+      (and_l (leb k 3) _ p.0, (search (and_l, and_r), record { is_admitted = q.0; instant_is = same_given q.1 }))
 
-  pub stamp_given : (x : ℤ) (z : Stamp) → stamp_of t x k ≡ Stamped z → (leb k 3 ≡ true) × ((accepted t ≡ true) × ((in_range t (scale_of k) x ≡ true) × (stamp_at t (scale_of k) x ≡ z)))
+  pub stamp_given : (x : ℤ) (z : Stamp) → stamp_of t x k ≡ Ok z → (leb k 3 ≡ true) × ((accepted t ≡ true) × ((in_range t (scale_of k) x ≡ true) × (stamp_at t (scale_of k) x ≡ z)))
   unfolding stamp_of
   stamp_given x z e =
-      let p = was_passed NoStamp (scale_tests t k) _ (Stamped z) (no_stamp z) e in
-      let q = was_passed NoStamp ((in_range t (scale_of k) x, RANGE) ∷ []) _ (Stamped z) (no_stamp z) p.1 in
-      (and_l (leb k 3) _ p.0, (search (and_l, and_r), (and_l _ true q.0, at q.1)))
-    where
-      at : {y : Stamp} → Stamped y ≡ Stamped z → y ≡ z
-      at q = cc
+      let p = was_given (scale_tests t k) z e in
+      let q = was_given ((in_range t (scale_of k) x, RANGE) ∷ []) z p.1 in
+      (and_l (leb k 3) _ p.0, (search (and_l, and_r), (and_l _ true q.0, same_given q.1)))
 
   -- what a reading gives that stands for an instant
-  pub instant_from : leb k 3 ≡ true → accepted t ≡ true → (r : Reading) (x : ℤ) → Reads t (scale_of k) r x → instant_of t k r ≡ InstantAt x
+  pub instant_from : leb k 3 ≡ true → accepted t ≡ true → (r : Reading) (x : ℤ) → Reads t (scale_of k) r x → instant_of t k r ≡ Ok x
   unfolding instant_of
   instant_from known good r x b =
-      none_refused NoInstant (scale_tests t k) _ (join known (join good refl))
-      ∙ none_refused NoInstant (label_tests (offsets_of t (scale_of k)) (most_second (scale_of k)) r) _ b.is_admitted
-      ∙ ap InstantAt b.instant_is
+      none_refused Err (scale_tests t k) _ (join known (join good refl))
+      ∙ none_refused Err (label_tests (offsets_of t (scale_of k)) (most_second (scale_of k)) r) _ b.is_admitted
+      ∙ ap Ok b.instant_is
 
-  pub stamp_from : leb k 3 ≡ true → accepted t ≡ true → (r : Reading) (x : ℤ) → Reads t (scale_of k) r x → stamp_of t x k ≡ Stamped (stamp (scale_of k) r)
+  pub stamp_from : leb k 3 ≡ true → accepted t ≡ true → (r : Reading) (x : ℤ) → Reads t (scale_of k) r x → stamp_of t x k ≡ Ok (stamp (scale_of k) r)
   unfolding stamp_of
   stamp_from known good r x b =
-      none_refused NoStamp (scale_tests t k) _ (join known (join good refl))
-      ∙ none_refused NoStamp ((in_range t (scale_of k) x, RANGE) ∷ []) _ (join ((in_range_reads t good (scale_of k) x).1 (r, b)) refl)
-      ∙ ap Stamped (reads_stamp t good (scale_of k) r x b)
+      none_refused Err (scale_tests t k) _ (join known (join good refl))
+      ∙ none_refused Err ((in_range t (scale_of k) x, RANGE) ∷ []) _ (join ((in_range_reads t good (scale_of k) x).1 (r, b)) refl)
+      ∙ ap Ok (reads_stamp t good (scale_of k) r x b)
 
   -- each undoes the other
-  pub stamp_back : (r : Reading) (x : ℤ) → instant_of t k r ≡ InstantAt x → stamp_of t x k ≡ Stamped (stamp (scale_of k) r)
+  pub stamp_back : (r : Reading) (x : ℤ) → instant_of t k r ≡ Ok x → stamp_of t x k ≡ Ok (stamp (scale_of k) r)
   stamp_back r x e = let g = instant_given r x e in stamp_from g.0 g.1.0 r x g.1.1
 
-  pub stamp_reads : (x : ℤ) (z : Stamp) → stamp_of t x k ≡ Stamped z → (z.scale ≡ scale_of k) × Reads t (scale_of k) z.reading x
+  pub stamp_reads : (x : ℤ) (z : Stamp) → stamp_of t x k ≡ Ok z → (z.scale ≡ scale_of k) × Reads t (scale_of k) z.reading x
   stamp_reads x z e =
       let g = stamp_given x z e in
       let q = g.1.1.1 in
       (ap (λ (y : Stamp). y.scale) (sym q), subst (λ (y : Stamp). Reads t (scale_of k) y.reading x) q (back_reads t (accepted_to t g.1.0) (scale_of k) x g.1.1.0))
 
-  pub instant_back : (z : Stamp) (x : ℤ) → stamp_of t x k ≡ Stamped z → (z.scale ≡ scale_of k) × (instant_of t k z.reading ≡ InstantAt x)
+  pub instant_back : (z : Stamp) (x : ℤ) → stamp_of t x k ≡ Ok z → (z.scale ≡ scale_of k) × (instant_of t k z.reading ≡ Ok x)
   instant_back z x e =
       let g = stamp_given x z e in
       let b = stamp_reads x z e in
@@ -198,25 +184,25 @@ module _ (t : Table) (k : ℕ) where
   unfolding stamp_of
   range_given x e = go (leb k 3) (accepted t) (in_range t (scale_of k) x) e
     where
-      go : (a b c : Bool) → (stamp_results (refusing NoStamp ((a, ASK) ∷ (b, TABLE) ∷ (c, RANGE) ∷ []) (Stamped (stamp_at t (scale_of k) x)))).0 ≡ 7 → (a ≡ true) × ((b ≡ true) × (c ≡ false))
+      go : (a b c : Bool) → (stamp_results (refusing Err ((a, ASK) ∷ (b, TABLE) ∷ (c, RANGE) ∷ []) (Ok (stamp_at t (scale_of k) x)))).0 ≡ 7 → (a ≡ true) × ((b ≡ true) × (c ≡ false))
       go true true false e = (refl, (refl, refl))
       go true true true e = absurd (omega arith)
       go true false c e = absurd (omega arith)
       go false b c e = absurd (omega arith)
 
-  pub range_from : leb k 3 ≡ true → accepted t ≡ true → (x : ℤ) → in_range t (scale_of k) x ≡ false → stamp_of t x k ≡ NoStamp RANGE
+  pub range_from : leb k 3 ≡ true → accepted t ≡ true → (x : ℤ) → in_range t (scale_of k) x ≡ false → stamp_of t x k ≡ Err RANGE
   unfolding stamp_of
-  range_from known good x e = none_refused NoStamp (scale_tests t k) _ (join known (join good refl)) ∙ sym (refused _ _ e)
+  range_from known good x e = none_refused Err (scale_tests t k) _ (join known (join good refl)) ∙ sym (refused _ _ e)
 
 -- ---- from an answer's numbers back to the answer: number 0 is no refusal's, and 7 is RANGE's alone
 
-pub at_instant : (a : InstantAnswer) (x : ℤ) → instant_results a ≡ (0, x) → a ≡ InstantAt x
-at_instant (InstantAt y) x e = ap (λ v. InstantAt v.1) e
-at_instant (NoInstant why) x e = absurd (number_some why (ap (λ v. v.0) e))
+pub at_instant : (a : Result ℤ Refusal) (x : ℤ) → instant_results a ≡ (0, x) → a ≡ Ok x
+at_instant (Ok y) x e = ap (λ v. Ok v.1) e
+at_instant (Err why) x e = absurd (number_some why (ap (λ v. v.0) e))
 
-pub at_stamp : (a : StampAnswer) (z : Stamp) → stamp_results a ≡ (0, z) → a ≡ Stamped z
-at_stamp (Stamped u) z e = ap (λ v. Stamped v.1) e
-at_stamp (NoStamp why) z e = absurd (number_some why (ap (λ v. v.0) e))
+pub at_stamp : (a : Result Stamp Refusal) (z : Stamp) → stamp_results a ≡ (0, z) → a ≡ Ok z
+at_stamp (Ok u) z e = ap (λ v. Ok v.1) e
+at_stamp (Err why) z e = absurd (number_some why (ap (λ v. v.0) e))
 
 pub converts : (t : Table) (k : ℕ) → Converts t k
 converts t k =

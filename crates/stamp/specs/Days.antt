@@ -1,7 +1,7 @@
 -- What Julian dates are worked out by: the day that a scale shows at an instant, and the instant of a microsecond of a day. A reader may skip this file: `Pairs`
 -- of the crate `julian` fixes what comes of it.
 -- Assumes nothing.
-use Rattle.std.specs.Prelude.{Bool, ◌&&◌, List, [], ◌∷◌, ◌++◌, ℕ, ◌+◌, ◌*◌, leb, ℤ}
+use Rattle.std.specs.Prelude.{Bool, ◌&&◌, List, [], ◌∷◌, ◌++◌, ℕ, ◌+◌, ◌*◌, leb, ℤ, Result, Ok, Err}
 use Rattle.answer.specs.declared.Refusal.{Refusal}
 use Rattle.answer.specs.declared.Refusal.TheVariants.{Range as RANGE}
 use Rattle.answer.specs.Refusals.{refusing}
@@ -15,10 +15,6 @@ use Rattle.stamp.specs.declared.Scale.{Scale}
 use Rattle.stamp.specs.declared.DayTime.{DayTime}
 use Rattle.stamp.specs.declared.DayStart.{DayStart}
 use Rattle.stamp.specs.declared.DaySpan.{DaySpan}
-use Rattle.stamp.specs.declared.InstantAnswer.{InstantAnswer}
-use Rattle.stamp.specs.declared.InstantAnswer.TheVariants.{At, Refused}
-use Rattle.stamp.specs.declared.ShownAnswer.{ShownAnswer}
-use Rattle.stamp.specs.declared.ShownAnswer.TheVariants.{Shown, Refused as NotShown}
 use Rattle.stamp.specs.Scales.{scale_of, scale_tests, offsets_of, to_instant}
 use Rattle.stamp.specs.Back.{in_range, stamp_at}
 
@@ -28,8 +24,8 @@ abbrev pub day_time : Offsets → Reading → DayTime
 day_time o r = record { day = day_count r.label; micro = micro_of_day r; seconds = day_seconds o (day_count r.label) }
 
 -- `shown_of`, without its mark
-unfoldable pub shown_of : Table → ℤ → ℕ → ShownAnswer
-shown_of t x k = refusing NotShown (scale_tests t k ++ (in_range t (scale_of k) x, RANGE) ∷ []) (Shown (day_time (offsets_of t (scale_of k)) (stamp_at t (scale_of k) x).reading))
+unfoldable pub shown_of : Table → ℤ → ℕ → Result DayTime Refusal
+shown_of t x k = refusing Err (scale_tests t k ++ (in_range t (scale_of k) x, RANGE) ∷ []) (Ok (day_time (offsets_of t (scale_of k)) (stamp_at t (scale_of k) x).reading))
 
 -- ---- the instant of a microsecond of a day
 
@@ -52,5 +48,5 @@ abbrev pub instant_after : Scale → DayStart → ℕ → ℤ
 instant_after s b u = to_instant s (axis_at (86400000000 * b.number + u) b.offset)
 
 -- `instant_on`, without its mark
-unfoldable pub instant_on : Scale → DayStart → ℕ → InstantAnswer
-instant_on s b u = refusing Refused (day_tests b u) (At (instant_after s b u))
+unfoldable pub instant_on : Scale → DayStart → ℕ → Result ℤ Refusal
+instant_on s b u = refusing Err (day_tests b u) (Ok (instant_after s b u))

@@ -1,6 +1,6 @@
 -- The scales. Each is two things: a calendar rule, and a map between its own axis and instants.
 -- Assumes nothing.
-use Rattle.std.specs.Prelude.{Bool, cond, List, [], ◌∷◌, ℕ, eqb, leb, ℤ, pos, negsuc, ◌+ℤ◌, ◌-ℤ◌}
+use Rattle.std.specs.Prelude.{Bool, cond, List, [], ◌∷◌, ℕ, eqb, leb, ℤ, pos, negsuc, ◌+ℤ◌, ◌-ℤ◌, Result, Ok, Err}
 use Rattle.answer.specs.declared.Refusal.{Refusal}
 use Rattle.answer.specs.declared.Refusal.TheVariants.{Ask as ASK, Table as TABLE}
 use Rattle.answer.specs.Refusals.{refusing}
@@ -11,8 +11,6 @@ use Rattle.labels.specs.Labels.{Offsets, uniform}
 use Rattle.labels.specs.Seconds.{axis_of}
 use Rattle.stamp.specs.declared.Scale.{Scale}
 use Rattle.stamp.specs.declared.Scale.TheVariants.{Utc, Tai, Tdt, Gps}
-use Rattle.stamp.specs.declared.ScaleAnswer.{ScaleAnswer}
-use Rattle.stamp.specs.declared.ScaleAnswer.TheVariants.{On, Refused}
 
 -- ---- their numbers
 
@@ -30,13 +28,17 @@ scale_number Tai = 1
 scale_number Tdt = 2
 scale_number Gps = 3
 
+-- the scale of a number, if it is one of a scale
+abbrev pub scale_known : ℕ → Result Scale Refusal
+scale_known k = refusing Err ((known_scale k, ASK) ∷ []) (Ok (scale_of k))
+
 -- what a call with a table and a scale asks first
 abbrev pub scale_tests : Table → ℕ → List (Bool × Refusal)
 scale_tests t k = (known_scale k, ASK) ∷ (accepted t, TABLE) ∷ []
 
 -- `asked`
-unfoldable pub asked : Table → ℕ → ScaleAnswer
-asked t k = refusing Refused (scale_tests t k) (On (scale_of k))
+unfoldable pub asked : Table → ℕ → Result Scale Refusal
+asked t k = refusing Err (scale_tests t k) (Ok (scale_of k))
 
 -- ---- the calendar rule
 

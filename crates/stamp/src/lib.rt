@@ -2,27 +2,26 @@
 // An instant is a count of TAI microseconds from 2000-01-01 12:00:00 TAI; a scale's own axis counts microseconds from year 0.
 #![tactic(auto)]
 
-ghost use Rattle.std.specs.Prelude.{◌≡◌, true, false, [], ◌∷◌, ◌+◌, ◌*◌, ◌/◌, ◌≤◌, pos, negsuc, ◌-ℤ◌, ◌≤ℤ◌};
+ghost use Rattle.std.specs.Prelude.{◌≡◌, true, [], ◌∷◌, ◌+◌, ◌*◌, ◌/◌, ◌≤◌, pos, negsuc, ◌-ℤ◌, ◌≤ℤ◌, Err, Ok};
 ghost use Rattle.answer.specs.declared.Refusal.TheVariants.{NoSecond as NOSECOND};
 ghost use Rattle.answer.specs.Refusals.{refusing};
-ghost use Rattle.leap.specs.Leap.{tabled, vouched_to, accepted};
+ghost use Rattle.leap.specs.Leap.{accepted};
 ghost use Rattle.months.specs.Months.{days_before};
-ghost use Rattle.labels.specs.declared.Judged.TheVariants.{Real};
 ghost use Rattle.labels.specs.Labels.{month_of, judged, has_second};
 ghost use Rattle.labels.specs.Seconds.{micro_of, axis_at, in_years, last_month};
 ghost use Rattle.labels.specs.Back.{day_begins};
-ghost use Rattle.stamp.specs.Scales.{scale_of, scale_number, asked, fixed, offsets_of, most_second, to_instant, instant_for};
-ghost use Rattle.stamp.specs.Parts.{first_offset, spot_at, moment_in, moment_of, day_after};
+ghost use Rattle.stamp.specs.Scales.{scale_of, scale_known, scale_number, asked, fixed, offsets_of, most_second, to_instant, instant_for};
+ghost use Rattle.stamp.specs.Parts.{first_offset, spot_at, moment_in, moment_of, moment_stamp, moment_day, day_after};
 ghost use Rattle.stamp.specs.Back.{in_range, axis_count};
 ghost use Rattle.stamp.specs.Days.{day_on};
 ghost use Rattle.stamp.specs.Stamps.{instant_in};
-ghost use Rattle.stamp.specs.Marks.{beyond_on, marked_instant, instant_of_marked, stamp_of_marked, shown_of_marked, instant_on_marked};
+ghost use Rattle.stamp.specs.Marks.{beyond_on, instant_of_marked, stamp_of_marked, shown_of_marked, instant_on_marked};
 
-use answer::Refusal;
-use labels::{Judged, Month, Place, Reading};
+use answer::{Marked, Refusal};
+use labels::{Label, Month, Place, Reading};
 use leap::{OffsetPair, Table};
 
-#[derive(Clone, Copy)]
+#[derive(Clone, Copy, Debug, PartialEq, Eq)]
 pub enum Scale {
     Utc,
     Tai,
@@ -31,46 +30,22 @@ pub enum Scale {
 }
 
 // A reading never goes without its scale.
-#[derive(Clone, Copy)]
+#[derive(Clone, Copy, Debug, PartialEq, Eq)]
 pub struct Stamp {
     pub scale: Scale,
     pub reading: Reading,
 }
 
-#[derive(Clone, Copy)]
-pub enum ScaleAnswer {
-    On(Scale),
-    Refused(Refusal),
-}
-
-#[derive(Clone, Copy)]
-pub enum InstantAnswer {
-    At(i64),
-    Refused(Refusal),
-}
-
-#[derive(Clone, Copy)]
-pub enum StampAnswer {
-    Stamped(Stamp),
-    Refused(Refusal),
-}
-
 // What a scale shows: a day, counted from year 0, the microsecond of it, and how many seconds the day has.
-#[derive(Clone, Copy)]
+#[derive(Clone, Copy, Debug, PartialEq, Eq)]
 pub struct DayTime {
     pub day: u32,
     pub micro: u64,
     pub seconds: u32,
 }
 
-#[derive(Clone, Copy)]
-pub enum ShownAnswer {
-    Shown(DayTime),
-    Refused(Refusal),
-}
-
 // A day and its month, both counted from year 0, and TAI less the scale in it, in seconds.
-#[derive(Clone, Copy)]
+#[derive(Clone, Copy, Debug, PartialEq, Eq)]
 pub struct DayStart {
     pub number: u64,
     pub month: u64,
@@ -78,30 +53,11 @@ pub struct DayStart {
 }
 
 // A day, the next one, and how many seconds lie between their midnights.
-#[derive(Clone, Copy)]
+#[derive(Clone, Copy, Debug, PartialEq, Eq)]
 pub struct DaySpan {
     pub this: DayStart,
     pub next: DayStart,
     pub seconds: u32,
-}
-
-// Beside each answer stands its mark: on UTC, whether the month lies beyond the one that the table is vouched for.
-#[derive(Clone, Copy)]
-pub struct MarkedInstant {
-    pub answer: InstantAnswer,
-    pub beyond: bool,
-}
-
-#[derive(Clone, Copy)]
-pub struct MarkedStamp {
-    pub answer: StampAnswer,
-    pub beyond: bool,
-}
-
-#[derive(Clone, Copy)]
-pub struct MarkedShown {
-    pub answer: ShownAnswer,
-    pub beyond: bool,
 }
 
 // A second of a month, and how many seconds its day has.
@@ -119,11 +75,50 @@ struct Moment {
     micro: u32,
 }
 
-#[derive(Clone, Copy)]
-enum MomentAnswer {
-    In(Moment),
-    Refused(Refusal),
+// ---- the numbers of the scales
+
+// The number of a scale in the scope.
+impl From<Scale> for u32 {
+    ghost from_gives = { λ scale n. n ≡ scale_number scale };
+
+    fn from(scale: Scale) -> u32 {
+        match scale {
+            Scale::Utc => 0,
+            Scale::Tai => 1,
+            Scale::Tdt => 2,
+            Scale::Gps => 3,
+        }
+    }
 }
+
+// The scale of a number, if it is one of a scale.
+impl TryFrom<u32> for Scale {
+    type Error = Refusal;
+
+    ghost try_from_gives = { λ number answer. answer ≡ scale_known number };
+
+    fn try_from(number: u32) -> Result<Scale, Refusal> {
+        if number <= Scale::MOST {
+            Ok(Scale::numbered(number))
+        } else {
+            Err(Refusal::Ask)
+        }
+    }
+}
+
+// What every call with a table and a scale is asked first.
+#[tactic(auto, unfolding(crate::specs::Scales::asked))]
+pub fn asked(t: &Table, scale: u32) -> Result<Scale, Refusal>
+    ensures { result ≡ asked t.now scale }
+{
+    let scale = Scale::try_from(scale)?;
+    if !t.is_accepted() {
+        return Err(Refusal::Table);
+    }
+    Ok(scale)
+}
+
+// ---- microseconds and seconds
 
 // A microsecond that a scale shows, where TAI is `offset` seconds on, as the axis counts it.
 #[tactic(auto, unfolding(labels::specs::Seconds::axis_at))]
@@ -134,6 +129,36 @@ fn axis_at(micro: u64, offset: i32) -> i64
     let u = micro as i64;
     let o = offset as i64;
     u + 1000000 * o
+}
+
+// What a reading shows, whose month has `start` days before it.
+#[tactic(auto, unfolding(labels::specs::Seconds::second_of))]
+fn micro_of(r: Reading, start: u64) -> u64
+    requires start_value { (start ≡ days_before (month_of r.label)) × (start ≤ 4000000) }
+    requires le_day { (1 ≤ r.label.day) × ((r.label.day ≤ 31) × ((r.label.hour ≤ 23) × ((r.label.minute ≤ 59) × ((r.label.second ≤ 60) × (r.micro ≤ 999999))))) }
+    ensures { (result ≡ micro_of r) × (result ≤ 400000000000000000) }
+{
+    let Label {
+        day,
+        hour,
+        minute,
+        second,
+        ..
+    } = r.label;
+    let days = start + (day - 1) as u64;
+    let time = 3600 * hour + (60 * minute + second);
+    1000000 * (86400 * days + time as u64) + r.micro as u64
+}
+
+// The seconds of the axis since a day began, where TAI is `offset` seconds on; negative before it.
+fn elapsed(day: u64, offset: i32, second: u64) -> i64
+    requires { (day ≤ 5000000) × (second ≤ 500000000000) }
+    ensures { result ≡ pos second -ℤ day_begins day offset }
+{
+    let d = (86400 * day) as i64;
+    let o = offset as i64;
+    let s = second as i64;
+    s - (d + o)
 }
 
 impl Scale {
@@ -165,31 +190,20 @@ impl Scale {
     // December 9999.
     const LAST_MONTH: u32 = 119999;
 
+    // No instant before or after them has a label.
+    const EARLIEST: i64 = -63000000000000000;
+
+    const LATEST: i64 = 300000000000000000;
+
     // The scale of a number; 3 and above give GPS.
     pub fn numbered(number: u32) -> Scale
         ensures { result ≡ scale_of number }
     {
-        if number == 0 {
-            return Scale::Utc;
-        }
-        if number == 1 {
-            return Scale::Tai;
-        }
-        if number == 2 {
-            return Scale::Tdt;
-        }
-        Scale::Gps
-    }
-
-    // Its number in the scope.
-    pub fn number(self) -> u32
-        ensures { result ≡ scale_number self }
-    {
-        match self {
-            Scale::Utc => 0,
-            Scale::Tai => 1,
-            Scale::Tdt => 2,
-            Scale::Gps => 3,
+        match number {
+            0 => Scale::Utc,
+            1 => Scale::Tai,
+            2 => Scale::Tdt,
+            _ => Scale::Gps,
         }
     }
 
@@ -200,27 +214,17 @@ impl Scale {
     {
         match self {
             Scale::Utc => 60,
-            Scale::Tai => 59,
-            Scale::Tdt => 59,
-            Scale::Gps => 59,
+            Scale::Tai | Scale::Tdt | Scale::Gps => 59,
         }
     }
 
     // TAI less the scale in month m and in the next, in whole seconds.
-    fn near<'a>(
-        self,
-        count: usize,
-        months: &'a [u32; 64],
-        offsets: &'a [i32; 64],
-        m: u32,
-    ) -> OffsetPair
-        ensures { (result.here ≡ offsets_of (tabled count months.now offsets.now) self m) × (result.next ≡ offsets_of (tabled count months.now offsets.now) self (m + 1)) }
+    fn near(self, t: &Table, m: u32) -> OffsetPair
+        ensures { (result.here ≡ offsets_of t.now self m) × (result.next ≡ offsets_of t.now self (m + 1)) }
     {
         match self {
-            Scale::Utc => leap::near(count, months, offsets, m),
-            Scale::Tai => OffsetPair { here: 0, next: 0 },
-            Scale::Tdt => OffsetPair { here: 0, next: 0 },
-            Scale::Gps => OffsetPair { here: 0, next: 0 },
+            Scale::Utc => t.near(m),
+            Scale::Tai | Scale::Tdt | Scale::Gps => OffsetPair { here: 0, next: 0 },
         }
     }
 
@@ -230,21 +234,27 @@ impl Scale {
     {
         match self {
             Scale::Utc => 10,
-            Scale::Tai => 0,
-            Scale::Tdt => 0,
-            Scale::Gps => 0,
+            Scale::Tai | Scale::Tdt | Scale::Gps => 0,
         }
     }
 
     // In December 9999.
-    fn last_offset<'a>(self, count: usize, months: &'a [u32; 64], offsets: &'a [i32; 64]) -> i32
-        ensures { result ≡ offsets_of (tabled count months.now offsets.now) self last_month }
+    fn last_offset(self, t: &Table) -> i32
+        ensures { result ≡ offsets_of t.now self last_month }
     {
         match self {
-            Scale::Utc => leap::offset_at(count, months, offsets, Scale::LAST_MONTH),
-            Scale::Tai => 0,
-            Scale::Tdt => 0,
-            Scale::Gps => 0,
+            Scale::Utc => t.offset_at(Scale::LAST_MONTH),
+            Scale::Tai | Scale::Tdt | Scale::Gps => 0,
+        }
+    }
+
+    // UTC has a mark in the calendar's month m, under a table of number `vouched`, a uniform scale none.
+    pub fn beyond_on(self, vouched: u32, m: u64) -> bool
+        ensures { result ≡ beyond_on vouched self m }
+    {
+        match self {
+            Scale::Utc => leap::beyond(vouched, m),
+            Scale::Tai | Scale::Tdt | Scale::Gps => false,
         }
     }
 
@@ -279,395 +289,244 @@ impl Scale {
         let f = self.fixed();
         (instant + f + 63113947200000000) as u64
     }
-}
 
-// What every call with a table and a scale is asked first.
-#[tactic(auto, unfolding(crate::specs::Scales::asked))]
-pub fn asked<'a>(
-    count: usize,
-    months: &'a [u32; 64],
-    offsets: &'a [i32; 64],
-    vouched: u32,
-    scale: u32,
-) -> ScaleAnswer
-    ensures { result ≡ asked (vouched_to vouched (tabled count months.now offsets.now)) scale }
-{
-    if Scale::MOST < scale {
-        return ScaleAnswer::Refused(Refusal::Ask);
-    }
-    if !leap::is_accepted_in(count, months, offsets, vouched) {
-        return ScaleAnswer::Refused(Refusal::Table);
-    }
-    ScaleAnswer::On(Scale::numbered(scale))
-}
+    // ---- a reading to its instant
 
-// ---- marks
-
-// UTC has a mark in the calendar's month m, a uniform scale none.
-pub fn beyond_on(scale: Scale, vouched: u32, m: u64) -> bool
-    ensures { result ≡ beyond_on vouched scale m }
-{
-    match scale {
-        Scale::Utc => leap::beyond(vouched, m),
-        Scale::Tai => false,
-        Scale::Tdt => false,
-        Scale::Gps => false,
-    }
-}
-
-// A refusal has no mark.
-pub fn refused_instant(why: Refusal) -> MarkedInstant
-    ensures { result ≡ marked_instant (InstantAnswer.Refused why) false }
-{
-    let answer = InstantAnswer::Refused(why);
-    let beyond = false;
-    MarkedInstant { answer, beyond }
-}
-
-fn marked_instant(answer: InstantAnswer, mark: bool) -> MarkedInstant
-    ensures { result ≡ marked_instant answer mark }
-{
-    let beyond = match answer {
-        InstantAnswer::At(_) => mark,
-        InstantAnswer::Refused(_) => false,
-    };
-    MarkedInstant { answer, beyond }
-}
-
-// ---- a stamp to its instant
-
-// What a reading shows, whose month has `start` days before it.
-#[tactic(auto, unfolding(labels::specs::Seconds::second_of))]
-fn micro_of(r: Reading, start: u64) -> u64
-    requires start_value { (start ≡ days_before (month_of r.label)) × (start ≤ 4000000) }
-    requires le_day { (1 ≤ r.label.day) × ((r.label.day ≤ 31) × ((r.label.hour ≤ 23) × ((r.label.minute ≤ 59) × ((r.label.second ≤ 60) × (r.micro ≤ 999999))))) }
-    ensures { (result ≡ micro_of r) × (result ≤ 400000000000000000) }
-{
-    let l = r.label;
-    let day = start + (l.day - 1) as u64;
-    let time = 3600 * l.hour + (60 * l.minute + l.second);
-    1000000 * (86400 * day + time as u64) + r.micro as u64
-}
-
-// The instant of a reading whose fields were judged, if the scale has its second.
-fn instant_judged<'a>(
-    scale: Scale,
-    count: usize,
-    months: &'a [u32; 64],
-    offsets: &'a [i32; 64],
-    r: Reading,
-    month: Month,
-) -> InstantAnswer
-    requires { judged (most_second scale) r ≡ Real month }
-    ensures { result ≡ refusing InstantAnswer.Refused ((has_second (offsets_of (tabled count months.now offsets.now) scale) r.label, NOSECOND) ∷ []) (InstantAnswer.At (instant_for (tabled count months.now offsets.now) scale r)) }
-{
-    let l = r.label;
-    let m = month.number;
-    let near = scale.near(count, months, offsets, m);
-    let here = near.here;
-    if labels::minute_length(month.days, here, near.next, l) <= l.second {
-        return InstantAnswer::Refused(Refusal::NoSecond);
-    }
-    InstantAnswer::At(scale.instant(micro_of(r, months::days_before(m)), here))
-}
-
-// The instant of a reading, or the first thing that is wrong with it: for callers that have asked for scale and table.
-pub fn instant_in<'a>(
-    scale: Scale,
-    count: usize,
-    months: &'a [u32; 64],
-    offsets: &'a [i32; 64],
-    r: Reading,
-) -> InstantAnswer
-    ensures { result ≡ instant_in (tabled count months.now offsets.now) scale r }
-{
-    match labels::judge(scale.most_second(), r) {
-        Judged::Real(month) => instant_judged(scale, count, months, offsets, r, month),
-        Judged::Refused(why) => InstantAnswer::Refused(why),
-    }
-}
-
-pub fn instant_of(t: Table, scale: u32, r: Reading) -> MarkedInstant
-    ensures { result ≡ instant_of_marked t scale r }
-{
-    let count = t.count;
-    let vouched = t.vouched;
-    match asked(count, &t.months, &t.offsets, vouched, scale) {
-        ScaleAnswer::On(s) => {
-            let answer = instant_in(s, count, &t.months, &t.offsets, r);
-            marked_instant(answer, beyond_on(s, vouched, labels::month_of(r.label)))
+    // The instant of a reading whose fields were judged, if the scale has its second.
+    fn instant_judged(self, t: &Table, r: Reading, month: Month) -> Result<i64, Refusal>
+        requires { judged (most_second self) r ≡ Ok month }
+        ensures { result ≡ refusing Err ((has_second (offsets_of t.now self) r.label, NOSECOND) ∷ []) (Ok (instant_for t.now self r)) }
+    {
+        let l = r.label;
+        let m = month.number;
+        let near = self.near(t, m);
+        let here = near.here;
+        if labels::minute_length(month.days, here, near.next, l) <= l.second {
+            return Err(Refusal::NoSecond);
         }
-        ScaleAnswer::Refused(why) => refused_instant(why),
+        Ok(self.instant(micro_of(r, months::days_before(m)), here))
     }
-}
 
-// ---- an instant to its stamp
-
-// The seconds of the axis since a day began, where TAI is `offset` seconds on; negative before it.
-fn elapsed(day: u64, offset: i32, second: u64) -> i64
-    requires { (day ≤ 5000000) × (second ≤ 500000000000) }
-    ensures { result ≡ pos second -ℤ day_begins day offset }
-{
-    let d = (86400 * day) as i64;
-    let o = offset as i64;
-    let s = second as i64;
-    s - (d + o)
-}
-
-// The month that a microsecond of the axis falls in, the second of it and the seconds of its day. Offsets are at most 73 seconds: the
-// month of 128 seconds before is that month or the one before it, whose end the same read of the calendar gives.
-fn spot_at<'a>(
-    scale: Scale,
-    count: usize,
-    months: &'a [u32; 64],
-    offsets: &'a [i32; 64],
-    axis: u64,
-) -> Spot
-    requires offsets_value { accepted (tabled count months.now offsets.now) ≡ true }
-    requires axis_value { in_years (offsets_of (tabled count months.now offsets.now) scale) (pos axis) ≡ true }
-    ensures { result ≡ spot_at (offsets_of (tabled count months.now offsets.now) scale) (axis / 1000000) }
-{
-    let second = axis / 1000000;
-    let span = calendar::month_of_day(((second - 128) / 86400) as u32);
-    let m = span.number;
-    let near = scale.near(count, months, offsets, m);
-    let end = span.start + span.length as u64;
-    let past = elapsed(end, near.next, second);
-    if 0 <= past {
-        // So soon behind its begin it is the month's first day.
-        return Spot {
-            place: Place {
-                month: m + 1,
-                start: end,
-                days: calendar::month_length(m + 1),
-                second: past as u32,
-            },
-            seconds: 86400,
-        };
+    // The instant of a reading, or the first thing that is wrong with it: for callers that have asked for scale and table.
+    pub fn instant_in(self, t: &Table, r: Reading) -> Result<i64, Refusal>
+        ensures { result ≡ instant_in t.now self r }
+    {
+        let month = labels::judge(self.most_second(), r)?;
+        self.instant_judged(t, r, month)
     }
-    let rest = elapsed(span.start, near.here, second) as u32;
-    let last = 86400 * (span.length - 1) <= rest;
-    let place = Place {
-        month: m,
-        start: span.start,
-        days: span.length,
-        second: rest,
-    };
-    let seconds = labels::day_seconds(last, near.here, near.next);
-    Spot { place, seconds }
-}
 
-// The scale has a label for a microsecond of its axis.
-fn in_years<'a>(
-    scale: Scale,
-    count: usize,
-    months: &'a [u32; 64],
-    offsets: &'a [i32; 64],
-    axis: u64,
-) -> bool
-    requires { (accepted (tabled count months.now offsets.now) ≡ true) × (axis ≤ 400000000000000000) }
-    ensures { result ≡ in_years (offsets_of (tabled count months.now offsets.now) scale) (pos axis) }
-{
-    let first = axis_at(Scale::FIRST, scale.first_offset());
-    let last = axis_at(Scale::LAST, scale.last_offset(count, months, offsets));
-    let a = axis as i64;
-    if a < first {
-        return false;
-    }
-    a <= last
-}
+    // ---- an instant to its moment
 
-// The scale has a label for the instant. None so far from 2000 has one, and nearer ones have their place on the axis.
-fn in_range<'a>(
-    scale: Scale,
-    count: usize,
-    months: &'a [u32; 64],
-    offsets: &'a [i32; 64],
-    instant: i64,
-) -> bool
-    requires { accepted (tabled count months.now offsets.now) ≡ true }
-    ensures { result ≡ in_range (tabled count months.now offsets.now) scale instant }
-{
-    if instant < -63000000000000000 {
-        return false;
-    }
-    if 300000000000000000 < instant {
-        return false;
-    }
-    in_years(scale, count, months, offsets, scale.axis(instant))
-}
-
-fn moment_in<'a>(
-    scale: Scale,
-    count: usize,
-    months: &'a [u32; 64],
-    offsets: &'a [i32; 64],
-    instant: i64,
-) -> MomentAnswer
-    requires { accepted (tabled count months.now offsets.now) ≡ true }
-    ensures { result ≡ moment_in (tabled count months.now offsets.now) scale instant }
-{
-    if !in_range(scale, count, months, offsets, instant) {
-        return MomentAnswer::Refused(Refusal::Range);
-    }
-    let axis = scale.axis(instant);
-    let spot = spot_at(scale, count, months, offsets, axis);
-    let micro = (axis % 1000000) as u32;
-    MomentAnswer::In(Moment { scale, spot, micro })
-}
-
-fn moment_of<'a>(
-    count: usize,
-    months: &'a [u32; 64],
-    offsets: &'a [i32; 64],
-    vouched: u32,
-    instant: i64,
-    scale: u32,
-) -> MomentAnswer
-    ensures { result ≡ moment_of (vouched_to vouched (tabled count months.now offsets.now)) instant scale }
-{
-    match asked(count, months, offsets, vouched, scale) {
-        ScaleAnswer::On(s) => moment_in(s, count, months, offsets, instant),
-        ScaleAnswer::Refused(why) => MomentAnswer::Refused(why),
-    }
-}
-
-// For callers that lend the arrays: a table by value is copied.
-pub fn stamp_of_in<'a>(
-    count: usize,
-    months: &'a [u32; 64],
-    offsets: &'a [i32; 64],
-    vouched: u32,
-    instant: i64,
-    scale: u32,
-) -> MarkedStamp
-    ensures { result ≡ stamp_of_marked (vouched_to vouched (tabled count months.now offsets.now)) instant scale }
-{
-    match moment_of(count, months, offsets, vouched, instant, scale) {
-        MomentAnswer::In(m) => {
-            let label = labels::label_of(m.spot.place);
-            let reading = Reading {
-                label,
-                micro: m.micro,
+    // The month that a microsecond of the axis falls in, the second of it and the seconds of its day. Offsets are at most 73 seconds: the
+    // month of 128 seconds before is that month or the one before it, whose end the same read of the calendar gives.
+    fn spot_at(self, t: &Table, axis: u64) -> Spot
+        requires offsets_value { accepted t.now ≡ true }
+        requires axis_value { in_years (offsets_of t.now self) (pos axis) ≡ true }
+        ensures { result ≡ spot_at (offsets_of t.now self) (axis / 1000000) }
+    {
+        let second = axis / 1000000;
+        let span = calendar::month_of_day(((second - 128) / 86400) as u32);
+        let m = span.number;
+        let near = self.near(t, m);
+        let end = span.start + span.length as u64;
+        let past = elapsed(end, near.next, second);
+        if 0 <= past {
+            // So soon behind its begin it is the month's first day.
+            return Spot {
+                place: Place {
+                    month: m + 1,
+                    start: end,
+                    days: calendar::month_length(m + 1),
+                    second: past as u32,
+                },
+                seconds: 86400,
             };
-            let scale = m.scale;
-            let beyond = beyond_on(scale, vouched, m.spot.place.month as u64);
-            let answer = StampAnswer::Stamped(Stamp { scale, reading });
-            MarkedStamp { answer, beyond }
         }
-        MomentAnswer::Refused(why) => MarkedStamp {
-            answer: StampAnswer::Refused(why),
-            beyond: false,
-        },
+        let rest = elapsed(span.start, near.here, second) as u32;
+        let last = 86400 * (span.length - 1) <= rest;
+        let place = Place {
+            month: m,
+            start: span.start,
+            days: span.length,
+            second: rest,
+        };
+        let seconds = labels::day_seconds(last, near.here, near.next);
+        Spot { place, seconds }
+    }
+
+    // The scale has a label for a microsecond of its axis.
+    fn in_years(self, t: &Table, axis: u64) -> bool
+        requires { (accepted t.now ≡ true) × (axis ≤ 400000000000000000) }
+        ensures { result ≡ in_years (offsets_of t.now self) (pos axis) }
+    {
+        let first = axis_at(Scale::FIRST, self.first_offset());
+        let last = axis_at(Scale::LAST, self.last_offset(t));
+        let a = axis as i64;
+        first <= a && a <= last
+    }
+
+    // The scale has a label for the instant. None so far from 2000 has one, and nearer ones have their place on the axis.
+    fn in_range(self, t: &Table, instant: i64) -> bool
+        requires { accepted t.now ≡ true }
+        ensures { result ≡ in_range t.now self instant }
+    {
+        Scale::EARLIEST <= instant
+            && (instant <= Scale::LATEST && self.in_years(t, self.axis(instant)))
+    }
+
+    fn moment_in(self, t: &Table, instant: i64) -> Result<Moment, Refusal>
+        requires { accepted t.now ≡ true }
+        ensures { result ≡ moment_in t.now self instant }
+    {
+        if !self.in_range(t, instant) {
+            return Err(Refusal::Range);
+        }
+        let axis = self.axis(instant);
+        let spot = self.spot_at(t, axis);
+        let micro = (axis % 1000000) as u32;
+        Ok(Moment {
+            scale: self,
+            spot,
+            micro,
+        })
+    }
+
+    // ---- days
+
+    // A day of the scale, and the next one.
+    pub fn day_on(self, t: &Table, day: u32) -> DaySpan
+        ensures { result ≡ day_on (offsets_of t.now self) day }
+    {
+        let span = calendar::month_of_day(day);
+        let m = span.number;
+        let near = self.near(t, m);
+        let number = day as u64;
+        let last = number + 1 == span.start + span.length as u64;
+        let this = DayStart {
+            number,
+            month: m as u64,
+            offset: near.here,
+        };
+        let next = this.day_after(last, near.next);
+        DaySpan {
+            this,
+            next,
+            seconds: labels::day_seconds(last, near.here, near.next),
+        }
+    }
+
+    // The instant of a microsecond of a day: for callers that have asked for scale and table.
+    pub fn instant_on(self, vouched: u32, day: DayStart, micro: u64) -> Marked<i64>
+        ensures { result ≡ instant_on_marked vouched self day micro }
+    {
+        let DayStart {
+            number,
+            month,
+            offset,
+        } = day;
+        if number < Scale::FIRST_DAY || Scale::LAST_DAY < number || Scale::LONGEST < micro {
+            return Marked::refused(Refusal::Range);
+        }
+        let instant = self.instant(Scale::DAY * number + micro, offset);
+        Marked::new(Ok(instant), self.beyond_on(vouched, month))
     }
 }
 
-pub fn stamp_of(t: Table, instant: i64, scale: u32) -> MarkedStamp
-    ensures { result ≡ stamp_of_marked t instant scale }
-{
-    stamp_of_in(t.count, &t.months, &t.offsets, t.vouched, instant, scale)
+impl DayStart {
+    // The day behind it, in the next month where it is the last of its own.
+    fn day_after(self, last: bool, offset: i32) -> DayStart
+        requires { (self.number ≤ 4294967295) × (self.month ≤ 4294967295) }
+        ensures { result ≡ day_after self last offset }
+    {
+        let number = self.number + 1;
+        if last {
+            DayStart {
+                number,
+                month: self.month + 1,
+                offset,
+            }
+        } else {
+            DayStart { number, ..self }
+        }
+    }
 }
 
-// ---- days
+impl Moment {
+    fn stamp(self) -> Stamp
+        ensures { result ≡ moment_stamp self }
+    {
+        let reading = Reading {
+            label: labels::label_of(self.spot.place),
+            micro: self.micro,
+        };
+        Stamp {
+            scale: self.scale,
+            reading,
+        }
+    }
+
+    // The day that it is on, and the microsecond of that.
+    fn day_time(self) -> DayTime
+        requires { (self.spot.place.start ≤ 4000000) × ((self.spot.place.second ≤ 3000000) × (self.micro ≤ 999999)) }
+        ensures { result ≡ moment_day self }
+    {
+        let Spot { place, seconds } = self.spot;
+        let d = labels::day_of(place.days, place.second);
+        let day = (place.start + d as u64) as u32;
+        let micro = 1000000 * (place.second - 86400 * d) as u64 + self.micro as u64;
+        DayTime {
+            day,
+            micro,
+            seconds,
+        }
+    }
+
+    // Under a table of number `vouched`.
+    fn is_beyond(self, vouched: u32) -> bool
+        ensures { result ≡ beyond_on vouched self.scale self.spot.place.month }
+    {
+        let month = self.spot.place.month as u64;
+        self.scale.beyond_on(vouched, month)
+    }
+}
+
+// ---- the calls: an answer has its mark beside it, and so no `?`
+
+pub fn instant_of(t: &Table, scale: u32, r: Reading) -> Marked<i64>
+    ensures { result ≡ instant_of_marked t.now scale r }
+{
+    match asked(t, scale) {
+        Ok(s) => {
+            let beyond = s.beyond_on(t.vouched, labels::month_of(r.label));
+            Marked::new(s.instant_in(t, r), beyond)
+        }
+        Err(why) => Marked::refused(why),
+    }
+}
+
+fn moment_of(t: &Table, instant: i64, scale: u32) -> Result<Moment, Refusal>
+    ensures { result ≡ moment_of t.now instant scale }
+{
+    let s = asked(t, scale)?;
+    s.moment_in(t, instant)
+}
+
+pub fn stamp_of(t: &Table, instant: i64, scale: u32) -> Marked<Stamp>
+    ensures { result ≡ stamp_of_marked t.now instant scale }
+{
+    match moment_of(t, instant, scale) {
+        Ok(m) => Marked::new(Ok(m.stamp()), m.is_beyond(t.vouched)),
+        Err(why) => Marked::refused(why),
+    }
+}
 
 // The day that a scale shows at an instant, and the microsecond of it.
-pub fn shown_of<'a>(
-    count: usize,
-    months: &'a [u32; 64],
-    offsets: &'a [i32; 64],
-    vouched: u32,
-    instant: i64,
-    scale: u32,
-) -> MarkedShown
-    ensures { result ≡ shown_of_marked (vouched_to vouched (tabled count months.now offsets.now)) instant scale }
+// One function for this and `stamp_of` would take what is made of a moment as a closure: no plainer.
+pub fn shown_of(t: &Table, instant: i64, scale: u32) -> Marked<DayTime>
+    ensures { result ≡ shown_of_marked t.now instant scale }
 {
-    match moment_of(count, months, offsets, vouched, instant, scale) {
-        MomentAnswer::In(m) => {
-            let seconds = m.spot.seconds;
-            let p = m.spot.place;
-            let d = labels::day_of(p.days, p.second);
-            let day = (p.start + d as u64) as u32;
-            let micro = 1000000 * (p.second - 86400 * d) as u64 + m.micro as u64;
-            let scale = m.scale;
-            let beyond = beyond_on(scale, vouched, p.month as u64);
-            let answer = ShownAnswer::Shown(DayTime {
-                day,
-                micro,
-                seconds,
-            });
-            MarkedShown { answer, beyond }
-        }
-        MomentAnswer::Refused(why) => MarkedShown {
-            answer: ShownAnswer::Refused(why),
-            beyond: false,
-        },
-    }
-}
-
-// The day behind one, in the next month where that is the last of its own.
-fn day_after(this: DayStart, last: bool, offset: i32) -> DayStart
-    requires { (this.number ≤ 4294967295) × (this.month ≤ 4294967295) }
-    ensures { result ≡ day_after this last offset }
-{
-    let number = this.number + 1;
-    if last {
-        return DayStart {
-            number,
-            month: this.month + 1,
-            offset,
-        };
-    }
-    DayStart {
-        number,
-        month: this.month,
-        offset: this.offset,
-    }
-}
-
-// A day of a scale, and the next one.
-pub fn day_on<'a>(
-    scale: Scale,
-    count: usize,
-    months: &'a [u32; 64],
-    offsets: &'a [i32; 64],
-    day: u32,
-) -> DaySpan
-    ensures { result ≡ day_on (offsets_of (tabled count months.now offsets.now) scale) day }
-{
-    let span = calendar::month_of_day(day);
-    let m = span.number;
-    let near = scale.near(count, months, offsets, m);
-    let number = day as u64;
-    let last = number + 1 == span.start + span.length as u64;
-    let this = DayStart {
-        number,
-        month: m as u64,
-        offset: near.here,
-    };
-    let next = day_after(this, last, near.next);
-    DaySpan {
-        this,
-        next,
-        seconds: labels::day_seconds(last, near.here, near.next),
-    }
-}
-
-// The instant of a microsecond of a day: for callers that have asked for scale and table.
-pub fn instant_on(scale: Scale, vouched: u32, day: DayStart, micro: u64) -> MarkedInstant
-    ensures { result ≡ instant_on_marked vouched scale day micro }
-{
-    let number = day.number;
-    if number < Scale::FIRST_DAY {
-        return refused_instant(Refusal::Range);
-    }
-    if Scale::LAST_DAY < number {
-        return refused_instant(Refusal::Range);
-    }
-    if Scale::LONGEST < micro {
-        return refused_instant(Refusal::Range);
-    }
-    MarkedInstant {
-        answer: InstantAnswer::At(scale.instant(Scale::DAY * number + micro, day.offset)),
-        beyond: beyond_on(scale, vouched, day.month),
+    match moment_of(t, instant, scale) {
+        Ok(m) => Marked::new(Ok(m.day_time()), m.is_beyond(t.vouched)),
+        Err(why) => Marked::refused(why),
     }
 }

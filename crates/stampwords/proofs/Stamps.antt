@@ -18,12 +18,12 @@ use Rattle.leap.specs.Leap.{accepted}
 use Rattle.leap.proofs.Facts.{accepted_to}
 use Rattle.labels.specs.Labels.{month_of}
 use Rattle.labels.proofs.Admitted.{admitted_to}
+use Rattle.std.specs.Prelude.{Ok}
 use Rattle.stamp.specs.declared.Stamp.{Stamp}
 use Rattle.stamp.specs.Scales.{scale_of, offsets_of, most_second}
 use Rattle.stamp.specs.Promise.{Reads}
 use Rattle.stamp.proofs.Promise.{in_range_reads}
 use Rattle.stamp.proofs.Ranges.{range_low, range_high}
-use Rattle.text.specs.declared.TextAnswer.TheVariants.{Read}
 use Rattle.text.specs.Text.{read_text, text_results}
 use Rattle.text.specs.Promise.{Names}
 use Rattle.text.proofs.Promise.{promised}
@@ -78,7 +78,7 @@ module _ (x : ℤ) (near : Near x) (n : ℕ) (h : n ≤ 999999999999999999) wher
 
 -- ---- a stamp that is read
 
-module _ (t : Table) (k : ℕ) (s : List ℕ) (x : ℤ) (z : Stamp) (e : read_text t k s ≡ Read x z) where
+module _ (t : Table) (k : ℕ) (s : List ℕ) (x : ℤ) (z : Stamp) (e : read_text t k s ≡ Ok (x, z)) where
   named : (z.scale ≡ scale_of k) × Names t k s x z.reading
   named = (((promised t k).read s).success x z).0 (ap text_results e)
 
@@ -99,7 +99,7 @@ module _ (t : Table) (k : ℕ) (s : List ℕ) (x : ℤ) (z : Stamp) (e : read_te
       let a = admitted_to (offsets_of t (scale_of k)) (most_second (scale_of k)) z.reading read_stands.is_admitted in
       omega (arith, a.until_9999, a.exists.month_high)
 
-module _ (t : Table) (given : List ℕ) {x : ℤ} {z : Stamp} (e : (stamp_read t given).answer ≡ Read x z) where
+module _ (t : Table) (given : List ℕ) {x : ℤ} {z : Stamp} (e : (stamp_read t given).answer ≡ Ok (x, z)) where
   pub stamp_near : Near x
   unfolding stamp_read
   stamp_near = read_near t (clock_of given) (drop (length (before 32 given) + 1) given) x z e

@@ -1,18 +1,18 @@
 -- The instant of a stamp, or one before or after it, on a clock.
 -- Assumes nothing.
-use Rattle.std.specs.Prelude.{ℕ, Bool, ◌||◌, List, ◌++◌, ℤ}
+use Rattle.std.specs.Prelude.{ℕ, Bool, ◌||◌, List, ◌++◌, ℤ, Option, Some, None, Result, Ok, Err}
 use Rattle.answer.specs.Refusals.{refusing}
+use Rattle.answer.specs.declared.Refusal.{Refusal}
+use Rattle.stamp.specs.declared.Stamp.{Stamp}
 use Rattle.leap.specs.declared.Table.{Table}
 use Rattle.stamp.specs.Scales.{scale_of}
 use Rattle.stamp.specs.Marks.{beyond_at}
-use Rattle.text.specs.declared.TextAnswer.{TextAnswer}
-use Rattle.text.specs.declared.TextAnswer.TheVariants.{Read, Refused}
 use Rattle.text.specs.Text.{write_tests, text_at}
 use Rattle.digits.specs.Bytes.{ascii}
 use Rattle.phrases.specs.Texts.{no_seconds}
 use Rattle.phrases.specs.Replies.{Reply, answering, refusing_as, refusal}
 use Rattle.seconds.specs.declared.Move.{Move}
-use Rattle.seconds.specs.declared.Move.TheVariants.{On, Back, NoMove}
+use Rattle.seconds.specs.declared.Move.TheVariants.{On}
 use Rattle.seconds.specs.Seconds.{move_given, moved_by}
 use Rattle.stampwords.specs.Stamps.{clock_name, clock_named, clock_of, stamp_read, beyond_text}
 
@@ -25,9 +25,9 @@ unfoldable pub shown_reply : Table → List ℕ → ℤ → ℕ → ℕ → Bool
 shown_reply t line x k digits mark =
     refusing (λ why. refusal why line) (write_tests t x 0 k digits) (answering (clock_text k (text_at t x 0 k digits) (mark || beyond_at t (scale_of k) x)))
 
-abbrev pub moved_answer : Table → List ℕ → List ℕ → Move → ℕ → ℕ → TextAnswer → Bool → Reply
-moved_answer t line given move k digits (Read x z) mark = shown_reply t line (moved_by move x) k digits mark
-moved_answer t line given move k digits (Refused why) mark = refusal why given
+abbrev pub moved_answer : Table → List ℕ → List ℕ → Move → ℕ → ℕ → Result (ℤ × Stamp) Refusal → Bool → Reply
+moved_answer t line given move k digits (Ok (x, z)) mark = shown_reply t line (moved_by move x) k digits mark
+moved_answer t line given move k digits (Err why) mark = refusal why given
 
 -- the instant of a given stamp, moved, on clock k
 unfoldable pub moved_reply : Table → List ℕ → List ℕ → Move → ℕ → ℕ → Reply
@@ -42,10 +42,9 @@ show_reply t line given clock = moved_reply t line given (On 0) (clock_named clo
 abbrev pub after_reply : Table → List ℕ → List ℕ → Reply
 after_reply t line given = moved_reply t line given (On 1000000) (clock_of given) 0
 
-abbrev pub add_answer : Table → List ℕ → List ℕ → List ℕ → Move → Reply
-add_answer t line seconds given (On n) = moved_reply t line given (On n) (clock_of given) 6
-add_answer t line seconds given (Back n) = moved_reply t line given (Back n) (clock_of given) 6
-add_answer t line seconds given NoMove = refusing_as 8 no_seconds seconds
+abbrev pub add_answer : Table → List ℕ → List ℕ → List ℕ → Option Move → Reply
+add_answer t line seconds given (Some move) = moved_reply t line given move (clock_of given) 6
+add_answer t line seconds given None = refusing_as 8 no_seconds seconds
 
 unfoldable pub add_reply : Table → List ℕ → List ℕ → List ℕ → Reply
 add_reply t line seconds given = add_answer t line seconds given (move_given seconds)

@@ -1,24 +1,21 @@
 -- From one stamp to another: how long, and by how much a subtraction of the labels is wrong.
 -- Assumes nothing.
-use Rattle.std.specs.Prelude.{ℕ, Bool, cond, ◌&&◌, ◌||◌, List, ◌++◌, eqb, leb, ℤ, pos, negsuc, nat_abs, ◌-ℤ◌, length}
+use Rattle.std.specs.Prelude.{ℕ, Bool, cond, ◌&&◌, ◌||◌, List, ◌++◌, eqb, leb, ℤ, pos, negsuc, nat_abs, ◌-ℤ◌, length, Option, Some, None, Result, Ok, Err}
 use Rattle.std.specs.Int.Signed.{lt_z}
 use Rattle.leap.specs.declared.Table.{Table}
 use Rattle.labels.specs.Labels.{month_of}
+use Rattle.answer.specs.declared.Refusal.{Refusal}
 use Rattle.stamp.specs.declared.Stamp.{Stamp}
 use Rattle.stamp.specs.Scales.{scale_number, offsets_of}
-use Rattle.text.specs.declared.TextAnswer.{TextAnswer}
-use Rattle.text.specs.declared.TextAnswer.TheVariants.{Read, Refused}
 use Rattle.digits.specs.Bytes.{ascii}
 use Rattle.digits.specs.Decimals.{decimal_text}
 use Rattle.lines.specs.Words.{without}
 use Rattle.phrases.specs.Parts.{quoted}
 use Rattle.phrases.specs.Texts.{no_name}
 use Rattle.phrases.specs.Replies.{Reply, answering, refusing_as, refusal}
-use Rattle.stampwords.specs.declared.Steps.{Steps}
-use Rattle.stampwords.specs.declared.Steps.TheVariants.{Count, OtherClock}
 use Rattle.stampwords.specs.declared.Span.{Span}
-use Rattle.stampwords.specs.declared.SpanAnswer.{SpanAnswer}
-use Rattle.stampwords.specs.declared.SpanAnswer.TheVariants.{Lasts, First, Second}
+use Rattle.stampwords.specs.declared.Misread.{Misread}
+use Rattle.stampwords.specs.declared.Misread.TheVariants.{First, Second}
 use Rattle.seconds.specs.Seconds.{seconds_text}
 use Rattle.stampwords.specs.Stamps.{stamp_read, beyond_text}
 
@@ -29,11 +26,11 @@ abbrev pub offset_on : Table → Stamp → ℤ
 offset_on t z = offsets_of t z.scale (month_of z.reading.label)
 
 -- of two stamps on one clock
-abbrev pub steps_between : Table → Stamp → Stamp → Steps
-steps_between t z w = cond (eqb (scale_number z.scale) (scale_number w.scale)) (Count (offset_on t w -ℤ offset_on t z)) OtherClock
+abbrev pub steps_between : Table → Stamp → Stamp → Option ℤ
+steps_between t z w = cond (eqb (scale_number z.scale) (scale_number w.scale)) (Some (offset_on t w -ℤ offset_on t z)) None
 
 -- in the order of time: the later one's less the earlier one's
-abbrev pub steps_in_order : Table → ℤ → Stamp → ℤ → Stamp → Steps
+abbrev pub steps_in_order : Table → ℤ → Stamp → ℤ → Stamp → Option ℤ
 steps_in_order t x z y w = cond (lt_z y x) (steps_between t w z) (steps_between t z w)
 
 abbrev pub step_word : ℤ → List ℕ
@@ -48,22 +45,22 @@ count_text z =
     cond (eqb (nat_abs z) 0) (ascii "no second added")
     (decimal_text (nat_abs z) ++ (plural_text (nat_abs z) ++ step_word z))
 
-abbrev pub steps_text : Steps → List ℕ
-steps_text (Count z) = count_text z
-steps_text OtherClock = ascii "different clocks"
+abbrev pub steps_text : Option ℤ → List ℕ
+steps_text (Some z) = count_text z
+steps_text None = ascii "different clocks"
 
 -- ---- two stamps
 
-abbrev pub span_to : Table → Bool → ℤ → Stamp → TextAnswer → SpanAnswer
-span_to t beyond x z (Read y w) = Lasts (record { micros = y -ℤ x; steps = steps_in_order t x z y w; beyond = beyond })
-span_to t beyond x z (Refused why) = Second why
+abbrev pub span_to : Table → Bool → ℤ → Stamp → Result (ℤ × Stamp) Refusal → Result Span Misread
+span_to t beyond x z (Ok (y, w)) = Ok (record { micros = y -ℤ x; steps = steps_in_order t x z y w; beyond = beyond })
+span_to t beyond x z (Err why) = Err (Second why)
 
-abbrev pub span_from : Table → Bool → TextAnswer → TextAnswer → SpanAnswer
-span_from t beyond (Read x z) second = span_to t beyond x z second
-span_from t beyond (Refused why) second = First why
+abbrev pub span_from : Table → Bool → Result (ℤ × Stamp) Refusal → Result (ℤ × Stamp) Refusal → Result Span Misread
+span_from t beyond (Ok (x, z)) second = span_to t beyond x z second
+span_from t beyond (Err why) second = Err (First why)
 
 -- the first stamp is judged first
-unfoldable pub span_of : Table → List ℕ → List ℕ → SpanAnswer
+unfoldable pub span_of : Table → List ℕ → List ℕ → Result Span Misread
 span_of t a b = span_from t ((stamp_read t a).beyond || (stamp_read t b).beyond) (stamp_read t a).answer (stamp_read t b).answer
 
 -- ---- between
@@ -71,10 +68,14 @@ span_of t a b = span_from t ((stamp_read t a).beyond || (stamp_read t b).beyond)
 abbrev pub between_text : Span → List ℕ
 between_text s = seconds_text s.micros ++ (ascii " s" ++ beyond_text s.beyond)
 
-abbrev pub between_answer : List ℕ → List ℕ → SpanAnswer → Reply
-between_answer a b (Lasts s) = answering (between_text s)
-between_answer a b (First why) = refusal why a
-between_answer a b (Second why) = refusal why b
+-- the refusal of the stamp at fault
+abbrev pub misread_reply : List ℕ → List ℕ → Misread → Reply
+misread_reply a b (First why) = refusal why a
+misread_reply a b (Second why) = refusal why b
+
+abbrev pub between_answer : List ℕ → List ℕ → Result Span Misread → Reply
+between_answer a b (Ok s) = answering (between_text s)
+between_answer a b (Err misread) = misread_reply a b misread
 
 unfoldable pub between_reply : Table → List ℕ → List ℕ → Reply
 between_reply t a b = between_answer a b (span_of t a b)
@@ -92,10 +93,9 @@ unfoldable pub sheet_row : List ℕ → List ℕ → List ℕ → Span → List 
 sheet_row name a b s =
     cell name ++ (cell a ++ (cell b ++ (seconds_text s.micros ++ (ascii "," ++ (steps_text s.steps ++ beyond_text s.beyond)))))
 
-abbrev pub pass_answer : List ℕ → List ℕ → List ℕ → SpanAnswer → Reply
-pass_answer name a b (Lasts s) = answering (sheet_row name a b s)
-pass_answer name a b (First why) = refusal why a
-pass_answer name a b (Second why) = refusal why b
+abbrev pub pass_answer : List ℕ → List ℕ → List ℕ → Result Span Misread → Reply
+pass_answer name a b (Ok s) = answering (sheet_row name a b s)
+pass_answer name a b (Err misread) = misread_reply a b misread
 
 unfoldable pub pass_reply : Table → List ℕ → List ℕ → List ℕ → Reply
 pass_reply t name a b = cond (real_name name) (pass_answer name a b (span_of t a b)) (refusing_as 8 no_name name)

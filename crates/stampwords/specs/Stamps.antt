@@ -1,8 +1,9 @@
 -- Stamps as a desk gives them: the name of a clock, a blank and a text.
 -- Assumes nothing.
 use Rattle.std.specs.Prelude.{ℕ, ◌+◌, Bool, cond, List, [], eqb, ℤ, pos, negsuc, length, drop, ◌≤ℤ◌}
+use Rattle.answer.specs.declared.Marked.{Marked}
+use Rattle.stamp.specs.declared.Stamp.{Stamp}
 use Rattle.leap.specs.declared.Table.{Table}
-use Rattle.text.specs.declared.MarkedText.{MarkedText}
 use Rattle.text.specs.Marks.{read_text_marked}
 use Rattle.digits.specs.Bytes.{ascii, same_bytes}
 use Rattle.lines.specs.Words.{before}
@@ -20,7 +21,7 @@ clock_named s =
 unfoldable pub clock_of : List ℕ → ℕ
 clock_of given = clock_named (before 32 given)
 
-unfoldable pub stamp_read : Table → List ℕ → MarkedText
+unfoldable pub stamp_read : Table → List ℕ → (Marked (ℤ × Stamp))
 stamp_read t given = read_text_marked t (clock_of given) (drop (length (before 32 given) + 1) given)
 
 abbrev pub beyond_text : Bool → List ℕ

@@ -8,33 +8,26 @@ ghost use Rattle.phrases.specs.Puts.{Puts};
 ghost use Rattle.phrases.specs.Replies.{Says};
 ghost use Rattle.seconds.specs.Seconds.{Short, moved_by};
 ghost use Rattle.stampwords.specs.Stamps.{clock_name, clock_named, stamp_read, beyond_text, clock_of, Near};
-ghost use Rattle.stampwords.specs.Spans.{offset_on, steps_between, step_word, plural_text, count_text, steps_text, steps_in_order, span_of, between_text, between_reply, real_name, cell, sheet_row, pass_reply};
+ghost use Rattle.stampwords.specs.Spans.{offset_on, steps_between, step_word, plural_text, count_text, steps_text, steps_in_order, span_of, between_text, misread_reply, between_reply, real_name, cell, sheet_row, pass_reply};
 ghost use Rattle.stampwords.specs.Moves.{clock_text, shown_reply, moved_reply, show_reply, after_reply, add_reply};
 
-use answer::{Refusal, Written};
+use answer::{Marked, Refusal};
 use leap::Table;
-use phrases::Said;
+use phrases::{Said, Wrong};
 use seconds::Move;
 use stamp::{Scale, Stamp};
-use text::{MarkedText, TextAnswer};
 
 // Seconds added between two stamps of one clock, negative where they were taken out; or the clocks differ.
 #[derive(Clone, Copy)]
-pub enum Steps {
-    Count(i64),
-    OtherClock,
-}
-
-#[derive(Clone, Copy)]
 pub struct Span {
     pub micros: i64,
-    pub steps: Steps,
+    pub steps: Option<i64>,
     pub beyond: bool,
 }
 
-#[derive(Clone, Copy)]
-pub enum SpanAnswer {
-    Lasts(Span),
+// Which of two stamps is refused, and why.
+#[derive(Clone, Copy, Debug, PartialEq, Eq)]
+pub enum Misread {
     First(Refusal),
     Second(Refusal),
 }
@@ -48,25 +41,20 @@ fn moved(x: i64, m: Move) -> i64
     match m {
         Move::On(n) => x + (n as i64),
         Move::Back(n) => x - (n as i64),
-        Move::NoMove => x,
     }
 }
 
-// ---- stamps
+// ---- stamps: a clock goes by the scope's number of its scale, which `read_text` and `write_text` judge
 
 fn clock_name(k: u32) -> [u8; 3]
     ensures { result ≡ clock_name k }
 {
-    if k == 0 {
-        return *b"UTC";
+    match k {
+        0 => *b"UTC",
+        1 => *b"TAI",
+        2 => *b"TDT",
+        _ => *b"GPS",
     }
-    if k == 1 {
-        return *b"TAI";
-    }
-    if k == 2 {
-        return *b"TDT";
-    }
-    *b"GPS"
 }
 
 fn clock_named(name: &[u8]) -> u32
@@ -94,8 +82,8 @@ fn clock_of(given: &[u8]) -> u32
     clock_named(&given[..end])
 }
 
-fn read_stamp(t: Table, given: &[u8]) -> MarkedText
-    ensures { result ≡ stamp_read t given.now }
+fn read_stamp(t: &Table, given: &[u8]) -> Marked<(i64, Stamp)>
+    ensures { result ≡ stamp_read t.now given.now }
 {
     let from = lines::past(given, 0, 32);
     text::read_text(t, clock_of(given), &given[from..])
@@ -110,53 +98,34 @@ fn put_beyond(out: &mut [u8], at: usize, beyond: bool) -> usize
     phrases::put(out, at, b"")
 }
 
-fn either(a: bool, b: bool) -> bool
-    ensures { result ≡ (a || b) }
-{
-    if a {
-        return true;
-    }
-    b
-}
-
 // ---- from one stamp to another
 
-fn offset_on(t: Table, z: Stamp) -> i32
+fn offset_on(t: &Table, z: Stamp) -> i32
     requires { month_of z.reading.label ≤ 119999 }
-    ensures { result ≡ offset_on t z }
+    ensures { result ≡ offset_on t.now z }
 {
-    let scale = z.scale;
-    match scale {
-        Scale::Utc => leap::offset_at(
-            t.count,
-            &t.months,
-            &t.offsets,
-            labels::month_of(z.reading.label) as u32,
-        ),
-        Scale::Tai => 0,
-        Scale::Tdt => 0,
-        Scale::Gps => 0,
+    match z.scale {
+        Scale::Utc => t.offset_at(labels::month_of(z.reading.label) as u32),
+        Scale::Tai | Scale::Tdt | Scale::Gps => 0,
     }
 }
 
-fn steps_between(t: Table, z: Stamp, w: Stamp) -> Steps
+fn steps_between(t: &Table, z: Stamp, w: Stamp) -> Option<i64>
     requires { (month_of z.reading.label ≤ 119999) × (month_of w.reading.label ≤ 119999) }
-    ensures { result ≡ steps_between t z w }
+    ensures { result ≡ steps_between t.now z w }
 {
-    let first = z.scale;
-    let second = w.scale;
-    if first.number() != second.number() {
-        return Steps::OtherClock;
+    if z.scale != w.scale {
+        return None;
     }
     let before = offset_on(t, z) as i64;
     let after = offset_on(t, w) as i64;
-    Steps::Count(after - before)
+    Some(after - before)
 }
 
 // The two in the order of time.
-fn steps_in_order(t: Table, x: i64, z: Stamp, y: i64, w: Stamp) -> Steps
+fn steps_in_order(t: &Table, x: i64, z: Stamp, y: i64, w: Stamp) -> Option<i64>
     requires { (month_of z.reading.label ≤ 119999) × (month_of w.reading.label ≤ 119999) }
-    ensures { result ≡ steps_in_order t x z y w }
+    ensures { result ≡ steps_in_order t.now x z y w }
 {
     if y < x {
         return steps_between(t, w, z);
@@ -171,33 +140,27 @@ fn elapsed(x: i64, y: i64) -> i64
     y - x
 }
 
-fn span_between(t: Table, a: &[u8], b: &[u8]) -> SpanAnswer
-    ensures { result ≡ span_of t a.now b.now }
+fn span_between(t: &Table, a: &[u8], b: &[u8]) -> Result<Span, Misread>
+    ensures { result ≡ span_of t.now a.now b.now }
 {
     let first = read_stamp(t, a);
     let second = read_stamp(t, b);
-    let beyond = either(first.beyond, second.beyond);
     let start = first.answer;
     let end = second.answer;
+    // No `?`: each refusal becomes another variant, and `map_err` by a variant's name left goals open.
     match start {
-        TextAnswer::Refused(why) => SpanAnswer::First(why),
-        TextAnswer::Read {
-            instant: x,
-            stamp: z,
-        } => match end {
-            TextAnswer::Refused(why) => SpanAnswer::Second(why),
-            TextAnswer::Read {
-                instant: y,
-                stamp: w,
-            } => {
+        Err(why) => Err(Misread::First(why)),
+        Ok((x, z)) => match end {
+            Err(why) => Err(Misread::Second(why)),
+            Ok((y, w)) => {
                 let micros = elapsed(x, y);
                 let steps = steps_in_order(t, x, z, y, w);
-                let s = Span {
+                let beyond = first.beyond | second.beyond;
+                Ok(Span {
                     micros,
                     steps,
                     beyond,
-                };
-                SpanAnswer::Lasts(s)
+                })
             }
         },
     }
@@ -211,17 +174,26 @@ fn put_between(s: Span, out: &mut [u8], at: usize) -> usize
     put_beyond(out, b, s.beyond)
 }
 
+// Says the refusal of the stamp at fault.
+fn say_misread(misread: Misread, a: &[u8], b: &[u8], out: &mut [u8], at: usize) -> Said
+    ensures { Says out.old at (misread_reply a.now b.now misread) result out.new }
+{
+    match misread {
+        Misread::First(why) => phrases::refuse(out, at, why, a),
+        Misread::Second(why) => phrases::refuse(out, at, why, b),
+    }
+}
+
 // `between A and B`
-pub fn say_between(t: Table, a: &[u8], b: &[u8], out: &mut [u8], at: usize) -> Said
-    ensures { Says out.old at (between_reply t a.now b.now) result out.new }
+pub fn say_between(t: &Table, a: &[u8], b: &[u8], out: &mut [u8], at: usize) -> Said
+    ensures { Says out.old at (between_reply t.now a.now b.now) result out.new }
 {
     match span_between(t, a, b) {
-        SpanAnswer::Lasts(s) => Said {
+        Ok(s) => Said {
             at: put_between(s, out, at),
             good: true,
         },
-        SpanAnswer::First(why) => phrases::refuse(out, at, why, a),
-        SpanAnswer::Second(why) => phrases::refuse(out, at, why, b),
+        Err(misread) => say_misread(misread, a, b, out, at),
     }
 }
 
@@ -255,12 +227,12 @@ fn put_count(out: &mut [u8], at: usize, z: i64) -> usize
     put_step_word(out, b, z)
 }
 
-fn put_steps(out: &mut [u8], at: usize, steps: Steps) -> usize
+fn put_steps(out: &mut [u8], at: usize, steps: Option<i64>) -> usize
     ensures { Puts out.old at (steps_text steps) result out.new }
 {
     match steps {
-        Steps::Count(z) => put_count(out, at, z),
-        Steps::OtherClock => phrases::put(out, at, b"different clocks"),
+        Some(z) => put_count(out, at, z),
+        None => phrases::put(out, at, b"different clocks"),
     }
 }
 
@@ -288,29 +260,28 @@ fn put_row(name: &[u8], a: &[u8], b: &[u8], s: Span, out: &mut [u8], at: usize) 
 fn real_name(name: &[u8]) -> bool
     ensures { result ≡ real_name name.now }
 {
-    if name.len() < 1 {
+    if name.is_empty() {
         return false;
     }
-    if lines::until(name, 0, 44) != name.len() {
+    if lines::until(name, 0, b',') != name.len() {
         return false;
     }
-    lines::until(name, 0, 34) == name.len()
+    lines::until(name, 0, b'"') == name.len()
 }
 
 // `pass NAME from A to B`
-pub fn say_pass(t: Table, name: &[u8], a: &[u8], b: &[u8], out: &mut [u8], at: usize) -> Said
-    ensures { Says out.old at (pass_reply t name.now a.now b.now) result out.new }
+pub fn say_pass(t: &Table, name: &[u8], a: &[u8], b: &[u8], out: &mut [u8], at: usize) -> Said
+    ensures { Says out.old at (pass_reply t.now name.now a.now b.now) result out.new }
 {
     if !real_name(name) {
-        return phrases::refuse_as(out, at, 8, 18, name);
+        return phrases::refuse_request(out, at, Wrong::NoName, name);
     }
     match span_between(t, a, b) {
-        SpanAnswer::Lasts(s) => Said {
+        Ok(s) => Said {
             at: put_row(name, a, b, s, out, at),
             good: true,
         },
-        SpanAnswer::First(why) => phrases::refuse(out, at, why, a),
-        SpanAnswer::Second(why) => phrases::refuse(out, at, why, b),
+        Err(misread) => say_misread(misread, a, b, out, at),
     }
 }
 
@@ -327,7 +298,7 @@ fn put_shown(text: &[u8], k: u32, beyond: bool, out: &mut [u8], at: usize) -> us
 }
 
 fn say_shown(
-    t: Table,
+    t: &Table,
     line: &[u8],
     x: i64,
     k: u32,
@@ -336,26 +307,25 @@ fn say_shown(
     out: &mut [u8],
     at: usize,
 ) -> Said
-    ensures { Says out.old at (shown_reply t line.now x k places mark) result out.new }
+    ensures { Says out.old at (shown_reply t.now line.now x k places mark) result out.new }
 {
     let mut text = [0u8; 27];
-    let w = text::write_text(t, x, 0, k, places, &mut text);
-    let written = w.answer;
-    let beyond = either(mark, w.beyond);
-    match written {
-        Written::Wrote(n) => {
+    let written = text::write_text(t, x, 0, k, places, &mut text);
+    let beyond = mark | written.beyond;
+    match written.answer {
+        Ok(n) => {
             let e = lines::front(&text, n);
             Said {
                 at: put_shown(&text[..e], k, beyond, out, at),
                 good: true,
             }
         }
-        Written::Refused(why) => phrases::refuse(out, at, why, line),
+        Err(why) => phrases::refuse(out, at, why, line),
     }
 }
 
 fn say_moved(
-    t: Table,
+    t: &Table,
     line: &[u8],
     given: &[u8],
     m: Move,
@@ -365,42 +335,32 @@ fn say_moved(
     at: usize,
 ) -> Said
     requires { Short m }
-    ensures { Says out.old at (moved_reply t line.now given.now m k places) result out.new }
+    ensures { Says out.old at (moved_reply t.now line.now given.now m k places) result out.new }
 {
     let read = read_stamp(t, given);
-    let answer = read.answer;
-    match answer {
-        TextAnswer::Read { instant, stamp: _ } => say_shown(
-            t,
-            line,
-            moved(instant, m),
-            k,
-            places,
-            read.beyond,
-            out,
-            at,
-        ),
-        TextAnswer::Refused(why) => phrases::refuse(out, at, why, given),
+    match read.answer {
+        Ok((instant, _)) => say_shown(t, line, moved(instant, m), k, places, read.beyond, out, at),
+        Err(why) => phrases::refuse(out, at, why, given),
     }
 }
 
 // `show A on CLOCK`
 pub fn say_show(
-    t: Table,
+    t: &Table,
     line: &[u8],
     given: &[u8],
     clock: &[u8],
     out: &mut [u8],
     at: usize,
 ) -> Said
-    ensures { Says out.old at (show_reply t line.now given.now clock.now) result out.new }
+    ensures { Says out.old at (show_reply t.now line.now given.now clock.now) result out.new }
 {
     say_moved(t, line, given, Move::On(0), clock_named(clock), 6, out, at)
 }
 
 // `after A`
-pub fn say_after(t: Table, line: &[u8], given: &[u8], out: &mut [u8], at: usize) -> Said
-    ensures { Says out.old at (after_reply t line.now given.now) result out.new }
+pub fn say_after(t: &Table, line: &[u8], given: &[u8], out: &mut [u8], at: usize) -> Said
+    ensures { Says out.old at (after_reply t.now line.now given.now) result out.new }
 {
     say_moved(
         t,
@@ -415,12 +375,11 @@ pub fn say_after(t: Table, line: &[u8], given: &[u8], out: &mut [u8], at: usize)
 }
 
 // `add SECONDS to A`
-pub fn say_add(t: Table, line: &[u8], by: &[u8], given: &[u8], out: &mut [u8], at: usize) -> Said
-    ensures { Says out.old at (add_reply t line.now by.now given.now) result out.new }
+pub fn say_add(t: &Table, line: &[u8], by: &[u8], given: &[u8], out: &mut [u8], at: usize) -> Said
+    ensures { Says out.old at (add_reply t.now line.now by.now given.now) result out.new }
 {
     match seconds::move_given(by) {
-        Move::On(n) => say_moved(t, line, given, Move::On(n), clock_of(given), 6, out, at),
-        Move::Back(n) => say_moved(t, line, given, Move::Back(n), clock_of(given), 6, out, at),
-        Move::NoMove => phrases::refuse_as(out, at, 8, 17, by),
+        Some(m) => say_moved(t, line, given, m, clock_of(given), 6, out, at),
+        None => phrases::refuse_request(out, at, Wrong::NoSeconds, by),
     }
 }

@@ -7,8 +7,7 @@ use Prim.Native.Nat.{ℕ, ◌+◌, ◌-◌, ◌*◌, ◌/◌, ◌≤◌, ◌<◌
 use borrow.Author.Tests.{leb-true, le-leb, lt-leb}
 use lib.Dec.{leb}
 use lib.ListN.{length}
-use Rattle.digits.specs.declared.Number.{Number}
-use Rattle.digits.specs.declared.Number.TheVariants.{Is, Bad}
+use Rattle.std.specs.Prelude.{Option, Some, None}
 use Rattle.digits.specs.Decimals.{Within}
 use Rattle.lines.specs.Pairs.{paired, all_pairs, hex_of}
 use Rattle.tablewords.specs.declared.Loaded.{Loaded}
@@ -27,37 +26,37 @@ pub record Hex (s : List ℕ) (n : ℕ) : Type 0 where
   pub number : n ≡ length (paired s)
 
 module _ (s : List ℕ) where
-  pub hex_none : hex_of 512 s ≡ Bad → is_hex s ≡ false
+  pub hex_none : hex_of 512 s ≡ None → is_hex s ≡ false
   unfolding hex_of is_hex
   hex_none = go (leb (length s / 2) 512) (all_pairs s)
     where
-      go : (x y : Bool) → cond x (cond y (Is (length (paired s))) Bad) Bad ≡ Bad → (x && y) ≡ false
+      go : (x y : Bool) → cond x (cond y (Some (length (paired s))) None) None ≡ None → (x && y) ≡ false
       go true true e = cc
       go true false e = refl
       go false y e = refl
 
-  pub hex_some : {n : ℕ} → hex_of 512 s ≡ Is n → Hex s n
+  pub hex_some : {n : ℕ} → hex_of 512 s ≡ Some n → Hex s n
   unfolding hex_of is_hex
   hex_some {n} e =
       let g = go (leb (length s / 2) 512) (all_pairs s) e in
       record { hex = rw (g.0, g.1); room = leb-true _ _ g.0; pairs = g.1; number = g.2 }
     where
-      go : (x y : Bool) → cond x (cond y (Is (length (paired s))) Bad) Bad ≡ Is n → (x ≡ true) × (y ≡ true) × (n ≡ length (paired s))
+      go : (x y : Bool) → cond x (cond y (Some (length (paired s))) None) None ≡ Some n → (x ≡ true) × (y ≡ true) × (n ≡ length (paired s))
       go true true e = (refl, refl, cc)
       go true false e = (refl, cc, cc)
       go false y e = (cc, cc, cc)
 
 -- ---- the number of a month
 
-pub at_most : {most : ℕ} {a : Number} {n : ℕ} → a ≡ Is n → Within most a → n ≤ most
+pub at_most : {most : ℕ} {a : Option ℕ} {n : ℕ} → a ≡ Some n → Within most a → n ≤ most
 at_most {most} e = subst (Within most) e
 
-module _ {a b : Number} {y m : ℕ} (p : a ≡ Is y) (q : b ≡ Is m) where
-  pub number_early : y < 1972 → Bad ≡ month_number a b
+module _ {a b : Option ℕ} {y m : ℕ} (p : a ≡ Some y) (q : b ≡ Some m) where
+  pub number_early : y < 1972 → None ≡ month_number a b
   number_early h = rw (p, q, lt-leb 1972 y h)
 
-  pub number_none : 1972 ≤ y → m < 1 → Bad ≡ month_number a b
+  pub number_none : 1972 ≤ y → m < 1 → None ≡ month_number a b
   number_none g h = rw (p, q, le-leb 1972 y g, lt-leb 1 m h)
 
-  pub number_good : 1972 ≤ y → 1 ≤ m → Is (12 * (y - 1972) + m) ≡ month_number a b
+  pub number_good : 1972 ≤ y → 1 ≤ m → Some (12 * (y - 1972) + m) ≡ month_number a b
   number_good g h = rw (p, q, le-leb 1972 y g, le-leb 1 m h)

@@ -1,18 +1,14 @@
 -- What loading a leap table and vouching for it answers, and the table afterwards: none, all zero, where loading is refused.
 -- Assumes nothing.
-use Rattle.std.specs.Prelude.{ℕ, ◌+◌, ◌-◌, ◌*◌, ◌/◌, ◌≡◌, Bool, false, cond, ◌&&◌, List, ◌++◌, eqb, leb, length, take, drop, get_or}
+use Rattle.std.specs.Prelude.{ℕ, ◌+◌, ◌-◌, ◌*◌, ◌/◌, ◌≡◌, Bool, false, cond, ◌&&◌, List, ◌++◌, eqb, leb, length, take, drop, get_or, Option, Some, None, Result, Ok, Err}
 use Rattle.answer.specs.declared.Refusal.{Refusal}
 use Rattle.answer.specs.declared.Refusal.TheVariants.{Table as TABLE}
 use Rattle.answer.specs.Refusals.{number}
 use Rattle.digits.specs.Bytes.{ascii}
 use Rattle.digits.specs.Decimals.{decimal_text, decimal_of}
-use Rattle.digits.specs.declared.Number.{Number}
-use Rattle.digits.specs.declared.Number.TheVariants.{Is, Bad}
 use Rattle.lines.specs.Pairs.{paired, all_pairs}
 use Rattle.leap.specs.declared.Table.{Table}
-use Rattle.leap.specs.declared.TableAnswer.{TableAnswer}
-use Rattle.leap.specs.declared.TableAnswer.TheVariants.{Read, Refused}
-use Rattle.leap.specs.declared.TableRead.{TableRead}
+use Rattle.answer.specs.declared.Fault.{Fault}
 use Rattle.leap.specs.Leap.{vouched_to, accepted}
 use Rattle.leap.specs.Readers.{no_table}
 use Rattle.block.specs.Reading.{read_either}
@@ -39,19 +35,16 @@ leaving t r = record { reply = r; table = t }
 -- ---- a table that was read
 
 -- a refusal of what was given, with the place
-abbrev pub placed_refusal : Refusal → List ℕ → ℕ → Reply
-placed_refusal why given place = record {
-  text = refusal_text (number why) (number why) given ++ (ascii " at byte " ++ decimal_text place);
+abbrev pub placed_refusal : Fault → List ℕ → Reply
+placed_refusal fault given = record {
+  text = refusal_text (number fault.why) (number fault.why) given ++ (ascii " at byte " ++ decimal_text fault.at);
   good = false;
 }
 
-abbrev pub loaded_as : List ℕ → Table → TableAnswer → Load
-loaded_as given new Read = taking new
-loaded_as given new (Refused why place) = leaving no_table (placed_refusal why given place)
-
 -- where none was read there is none from now on: no line is answered by another table than the one that was asked for
-abbrev pub loaded_by : List ℕ → TableRead → Load
-loaded_by given read = loaded_as given read.table read.answer
+abbrev pub loaded_by : List ℕ → Result Table Fault → Load
+loaded_by given (Ok table) = taking table
+loaded_by given (Err fault) = leaving no_table (placed_refusal fault given)
 
 -- pairs of hex digits alone, 512 of them at most: a line has no more
 unfoldable pub is_hex : List ℕ → Bool
@@ -79,21 +72,21 @@ load_cards given readable file =
 -- ---- the month that it is vouched for
 
 -- its number by a year and a month: the month plus one, where January 1972 is 0
-abbrev pub month_number : Number → Number → Number
-month_number (Is y) (Is m) = cond (leb 1972 y) (cond (leb 1 m) (Is (12 * (y - 1972) + m)) Bad) Bad
-month_number (Is y) Bad = Bad
-month_number Bad m = Bad
+abbrev pub month_number : Option ℕ → Option ℕ → Option ℕ
+month_number (Some y) (Some m) = cond (leb 1972 y) (cond (leb 1 m) (Some (12 * (y - 1972) + m)) None) None
+month_number (Some y) None = None
+month_number None m = None
 
 -- four digits of a year, `-` (45), and two of a month
-unfoldable pub month_given : List ℕ → Number
+unfoldable pub month_given : List ℕ → Option ℕ
 month_given s =
     cond (eqb (length s) 7)
-    (cond (eqb (get_or s 4 0) 45) (month_number (decimal_of 9999 (take 4 s)) (decimal_of 12 (drop 5 s))) Bad)
-    Bad
+    (cond (eqb (get_or s 4 0) 45) (month_number (decimal_of 9999 (take 4 s)) (decimal_of 12 (drop 5 s))) None)
+    None
 
-abbrev pub vouched_by : Table → List ℕ → Number → Load
-vouched_by t s (Is v) = cond (accepted (vouched_to v t)) (taking (vouched_to v t)) (leaving t (refusal TABLE s))
-vouched_by t s Bad = leaving t (refusing_as 8 no_month s)
+abbrev pub vouched_by : Table → List ℕ → Option ℕ → Load
+vouched_by t s (Some v) = cond (accepted (vouched_to v t)) (taking (vouched_to v t)) (leaving t (refusal TABLE s))
+vouched_by t s None = leaving t (refusing_as 8 no_month s)
 
 unfoldable pub vouch : Table → List ℕ → Load
 vouch t s = vouched_by t s (month_given s)

@@ -2,19 +2,16 @@
 // Every public function is total.
 #![tactic(auto)]
 
-ghost use Rattle.std.specs.Prelude.{◌≡◌, ◌≤◌, ◌<◌, min};
-ghost use Rattle.leap.specs.Leap.{top};
+ghost use Rattle.std.specs.Prelude.{◌≡◌};
 ghost use Rattle.digits.specs.Decimals.{Within};
 ghost use Rattle.phrases.specs.Puts.{Puts};
 ghost use Rattle.phrases.specs.Replies.{Says};
-ghost use Rattle.leap.specs.Readers.{no_table};
 ghost use Rattle.tablewords.specs.Words.{date_text, offset_text, feed, entries_text, count_text, vouched_words, table_words};
 ghost use Rattle.tablewords.specs.Loading.{taking, placed_refusal, loaded_by, load_block, not_read, load_kernel, load_cards, month_number, month_given, vouch, Loads};
 
-use answer::Refusal;
-use digits::Number;
-use leap::{Table, TableAnswer, TableRead};
-use phrases::Said;
+use answer::{Fault, Refusal};
+use leap::Table;
+use phrases::{Said, Wrong};
 
 // What was said, and the table from then on.
 #[derive(Clone, Copy)]
@@ -56,24 +53,14 @@ fn put_feed(out: &mut [u8], at: usize, k: usize) -> usize
     phrases::put(out, at, b"\n")
 }
 
-// How many places of a table have an entry.
-fn used(count: usize) -> usize
-    ensures { (result ≡ min count 64) × (result ≤ 64) }
-{
-    if count < 64 { count } else { 64 }
-}
-
 // Puts all entries, a line for each.
-pub fn put_entries(t: Table, out: &mut [u8], at: usize) -> usize
-    ensures { Puts out.old at (entries_text t) result out.new }
+pub fn put_entries(t: &Table, out: &mut [u8], at: usize) -> usize
+    ensures { Puts out.old at (entries_text t.now) result out.new }
 {
-    let n = used(t.count);
     let mut next = phrases::put(out, at, b"");
-    let mut k = 0;
-    while k < n {
+    for k in 0..t.count.min(64) {
         next = put_feed(out, next, k);
         next = put_entry(out, next, t.months[k], t.offsets[k]);
-        k += 1;
     }
     next
 }
@@ -102,24 +89,11 @@ fn put_vouched(out: &mut [u8], at: usize, v: u32) -> usize
     phrases::put_unsigned(out, c, (1972 + m / 12) as u64)
 }
 
-// The place of the last entry; 0 where there is none.
-fn last_place(count: usize) -> usize
-    ensures { (result ≡ top count) × (result < 64) }
-{
-    if 63 < count {
-        return 63;
-    }
-    if count < 1 {
-        return 0;
-    }
-    count - 1
-}
-
 // Puts the table in words.
-pub fn put_words(t: Table, out: &mut [u8], at: usize) -> usize
-    ensures { Puts out.old at (table_words t) result out.new }
+pub fn put_words(t: &Table, out: &mut [u8], at: usize) -> usize
+    ensures { Puts out.old at (table_words t.now) result out.new }
 {
-    let k = last_place(t.count);
+    let k = t.count.min(64).saturating_sub(1);
     let a = put_count(out, at, t.count);
     let b = phrases::put(out, a, b", the last ");
     let c = put_date(out, b, t.months[k]);
@@ -131,50 +105,38 @@ pub fn put_words(t: Table, out: &mut [u8], at: usize) -> usize
 
 // ---- a table that was read
 
-fn refuse_at(out: &mut [u8], at: usize, why: Refusal, given: &[u8], place: usize) -> Said
-    ensures { Says out.old at (placed_refusal why given.now place) result out.new }
+fn refuse_at(out: &mut [u8], at: usize, fault: Fault, given: &[u8]) -> Said
+    ensures { Says out.old at (placed_refusal fault given.now) result out.new }
 {
-    let said = phrases::refuse(out, at, why, given);
+    let said = phrases::refuse(out, at, fault.why, given);
     let a = phrases::put(out, said.at, b" at byte ");
     Said {
-        at: phrases::put_unsigned(out, a, place as u64),
+        at: phrases::put_unsigned(out, a, fault.at as u64),
         good: false,
     }
 }
 
 // Says this table, from now on the one in force, in words.
-fn take_up(t: Table, out: &mut [u8], at: usize) -> Loaded
-    ensures { Loads out.old at (taking t) result out.new }
+fn take_up(table: Table, out: &mut [u8], at: usize) -> Loaded
+    ensures { Loads out.old at (taking table) result out.new }
 {
-    Loaded {
-        said: Said {
-            at: put_words(t, out, at),
-            good: true,
-        },
-        table: t,
-    }
-}
-
-fn no_table() -> Table
-    ensures { result ≡ no_table }
-{
-    leap::refused_at(Refusal::Table, 0).table
+    let said = Said {
+        at: put_words(&table, out, at),
+        good: true,
+    };
+    Loaded { said, table }
 }
 
 // Says the table that was read, or why none was.
-fn loaded_by(given: &[u8], read: TableRead, out: &mut [u8], at: usize) -> Loaded
+fn loaded_by(given: &[u8], read: Result<Table, Fault>, out: &mut [u8], at: usize) -> Loaded
     ensures { Loads out.old at (loaded_by given.now read) result out.new }
 {
-    let answer = read.answer;
-    match answer {
-        TableAnswer::Read => take_up(read.table, out, at),
-        TableAnswer::Refused(why, place) => {
-            let table = no_table();
-            Loaded {
-                said: refuse_at(out, at, why, given, place),
-                table,
-            }
-        }
+    match read {
+        Ok(table) => take_up(table, out, at),
+        Err(fault) => Loaded {
+            said: refuse_at(out, at, fault, given),
+            table: Table::empty(),
+        },
     }
 }
 
@@ -183,12 +145,10 @@ pub fn load_block(hex: &[u8], out: &mut [u8], at: usize) -> Loaded
     ensures { Loads out.old at (load_block hex.now) result out.new }
 {
     let mut bytes = [0u8; 512];
-    let h = lines::hex(hex, &mut bytes);
-    let Number::Is(n) = h else {
-        let table = no_table();
+    let Some(n) = lines::hex(hex, &mut bytes) else {
         return Loaded {
-            said: phrases::refuse_as(out, at, 8, 21, hex),
-            table,
+            said: phrases::refuse_request(out, at, Wrong::NoHex, hex),
+            table: Table::empty(),
         };
     };
     let k = lines::front(&bytes, n as usize);
@@ -200,10 +160,9 @@ pub fn load_block(hex: &[u8], out: &mut [u8], at: usize) -> Loaded
 fn not_read(given: &[u8], number: u32, sentence: u32, out: &mut [u8], at: usize) -> Loaded
     ensures { Loads out.old at (not_read number sentence given.now) result out.new }
 {
-    let table = no_table();
     Loaded {
         said: phrases::refuse_as(out, at, number, sentence, given),
-        table,
+        table: Table::empty(),
     }
 }
 
@@ -233,33 +192,23 @@ pub fn load_cards(given: &[u8], readable: bool, file: &[u8], out: &mut [u8], at:
 // ---- the month that a table is vouched for
 
 // The number of the month of a year.
-fn month_number(year: Number, month: Number) -> Number
+fn month_number(year: Option<u64>, month: Option<u64>) -> Option<u64>
     requires { Within 9999 year × Within 12 month }
     ensures { (result ≡ month_number year month) × Within 96336 result }
 {
-    let Number::Is(y) = year else {
-        return Number::Bad;
-    };
-    let Number::Is(m) = month else {
-        return Number::Bad;
-    };
-    if y < 1972 {
-        return Number::Bad;
+    let y = year?;
+    let m = month?;
+    if y < 1972 || m < 1 {
+        return None;
     }
-    if m < 1 {
-        return Number::Bad;
-    }
-    Number::Is(12 * (y - 1972) + m)
+    Some(12 * (y - 1972) + m)
 }
 
-fn month_given(s: &[u8]) -> Number
+fn month_given(s: &[u8]) -> Option<u64>
     ensures { (result ≡ month_given s.now) × Within 96336 result }
 {
-    if s.len() != 7 {
-        return Number::Bad;
-    }
-    if s[4] != b'-' {
-        return Number::Bad;
+    if s.len() != 7 || s[4] != b'-' {
+        return None;
     }
     let year = digits::decimal(&s[..4], 9999);
     let month = digits::decimal(&s[5..], 12);
@@ -267,22 +216,21 @@ fn month_given(s: &[u8]) -> Number
 }
 
 // Vouches for the table up to a month.
-pub fn vouch(t: Table, month: &[u8], out: &mut [u8], at: usize) -> Loaded
-    ensures { Loads out.old at (vouch t month.now) result out.new }
+pub fn vouch(t: &Table, month: &[u8], out: &mut [u8], at: usize) -> Loaded
+    ensures { Loads out.old at (vouch t.now month.now) result out.new }
 {
-    let number = month_given(month);
-    let Number::Is(v) = number else {
+    let Some(v) = month_given(month) else {
         return Loaded {
-            said: phrases::refuse_as(out, at, 8, 19, month),
-            table: t,
+            said: phrases::refuse_request(out, at, Wrong::NoMonth, month),
+            table: *t,
         };
     };
-    let v = v as u32;
-    if !leap::is_accepted_in(t.count, &t.months, &t.offsets, v) {
+    let vouched = Table::new(t.count, t.months, t.offsets, v as u32);
+    if !vouched.is_accepted() {
         return Loaded {
             said: phrases::refuse(out, at, Refusal::Table, month),
-            table: t,
+            table: *t,
         };
     }
-    take_up(leap::tabled(t.count, &t.months, &t.offsets, v), out, at)
+    take_up(vouched, out, at)
 }

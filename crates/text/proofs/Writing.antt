@@ -9,11 +9,11 @@ use borrow.Author.Tests.{le-leb, lt-leb, leb-true, leb-false}
 use lib.Dec.{leb}
 use lib.IntN.{ℤ}
 use lib.ListN.{length, take}
+use Rattle.std.specs.Prelude.{Ok, Err}
 use Rattle.laws.specs.Placed.{over}
 use Rattle.laws.proofs.Cases.{by_test, and_l, and_r, join}
 use Rattle.laws.proofs.Placed.{over_front}
 use Rattle.answer.specs.declared.Refusal.TheVariants.{Room as ROOM, Range as RANGE, Ask as ASK, Table as TABLE}
-use Rattle.answer.specs.declared.Written.TheVariants.{Wrote, Refused}
 use Rattle.answer.specs.Refusals.{refusing, all_pass}
 use Rattle.answer.specs.Buffers.{room_last, written_results}
 use Rattle.answer.proofs.Orders.{none_refused}
@@ -33,7 +33,7 @@ use Rattle.text.specs.Promise.{Known, WrittenExactly, WritesText}
 -- ---- which of a call's four tests decides
 
 abbrev number_of : Bool → Bool → Bool → Bool → ℕ → ℕ
-number_of a b c d n = (written_results (refusing Refused ((a, ASK) ∷ (b, TABLE) ∷ (c, RANGE) ∷ (d, ROOM) ∷ []) (Wrote n))).0
+number_of a b c d n = (written_results (refusing Err ((a, ASK) ∷ (b, TABLE) ∷ (c, RANGE) ∷ (d, ROOM) ∷ []) (Ok n))).0
 
 passed : (a b c d : Bool) (n : ℕ) → number_of a b c d n ≡ 0 → (a ≡ true) × (b ≡ true) × (c ≡ true) × (d ≡ true)
 passed true true true true n e = (refl, refl, refl, refl)
@@ -99,7 +99,7 @@ module _ (t : Table) (k : ℕ) (x : ℤ) (p d : ℕ) (buffer : List ℕ) where
 
     its_bytes : length (text_of p d r) ≤ length buffer → (written_results (write_text t x p k d buffer) ≡ (0, length (text_of p d r))) × (write_text_after t x p k d buffer ≡ over (text_of p d r) buffer)
     its_bytes l = (
-      ap written_results (none_refused Refused (room_last (write_tests t x p k d) text buffer) (Wrote (length text)) (fits l)) ∙ ap (λ (b : List ℕ). (0, length b)) its_text,
+      ap written_results (none_refused Err (room_last (write_tests t x p k d) text buffer) (Ok (length text)) (fits l)) ∙ ap (λ (b : List ℕ). (0, length b)) its_text,
       none_refused (λ why. buffer) (room_last (write_tests t x p k d) text buffer) (over text buffer) (fits l) ∙ ap (λ (b : List ℕ). over b buffer) its_text,
     )
 

@@ -1,7 +1,7 @@
 -- What is promised of text, in the scope's numbers: how long a text is, what each text is read as or refused for, what is written for each instant, that it reads back, and that it sorts.
 -- Nothing here speaks of the reader's own steps, or of the way from an instant to its stamp.
 -- Assumes nothing.
-use Rattle.std.specs.Prelude.{◌≡◌, true, cond, List, [], ◌∷◌, ◌↔◌, ℕ, ◌+◌, ◌-◌, ◌%◌, ◌^◌, ◌≤◌, ◌<◌, eqb, ℤ, length, take, get_or, ◌≤ℤ◌}
+use Rattle.std.specs.Prelude.{◌≡◌, true, cond, List, [], ◌∷◌, ◌↔◌, ℕ, ◌+◌, ◌-◌, ◌%◌, ◌^◌, ◌≤◌, ◌<◌, eqb, ℤ, length, take, get_or, ◌≤ℤ◌, Err}
 use Rattle.laws.specs.Order.{Compare, NotGreater}
 use Rattle.laws.specs.Placed.{over}
 use Rattle.answer.specs.Refusals.{refusing}
@@ -15,7 +15,6 @@ use Rattle.stamp.specs.declared.Scale.{Scale}
 use Rattle.stamp.specs.declared.Stamp.{Stamp}
 use Rattle.stamp.specs.Scales.{scale_of, scale_tests}
 use Rattle.stamp.specs.Promise.{Reads}
-use Rattle.text.specs.declared.TextAnswer.TheVariants.{Refused}
 use Rattle.text.specs.Text.{reading_of, read_answer, read_text, text_results, text_of, write_text, write_text_after}
 
 -- ---- length
@@ -56,7 +55,7 @@ pub record ReadExactly (t : Table) (k : ℕ) (text : List ℕ) : Type 0 where
   -- SHAPE, 2, is for a text that is the picture of no fields
   pub shape : ((text_results (read_text t k text)).0 ≡ 2) ↔ ((k ≤ 3) × (accepted t ≡ true) × ((f : Fields) → WellFormed f → text ≡ picture_text f → ⊥))
   -- for one that is the picture of fields, scale and table are judged and then these, as a stamp's fields are
-  pub fields : (f : Fields) → WellFormed f → text ≡ picture_text f → text_results (read_text t k text) ≡ text_results (refusing Refused (scale_tests t k) (read_answer t (scale_of k) (reading_of f)))
+  pub fields : (f : Fields) → WellFormed f → text ≡ picture_text f → text_results (read_text t k text) ≡ text_results (refusing Err (scale_tests t k) (read_answer t (scale_of k) (reading_of f)))
 
 -- ---- writing
 

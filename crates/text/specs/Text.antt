@@ -1,15 +1,12 @@
 -- The calls: what a text is read as, and what is written for an instant. Exactly what they give is `ReadExactly` and `WrittenExactly` of Promise, by `reading_of`,
 -- `read_answer` and `text_of` alone: `fields_read`, which has the reader's steps, and `text_at`, which has the way back to a stamp, need not be believed.
 -- Assumes nothing.
-use Rattle.std.specs.Prelude.{Bool, cond, ◌&&◌, List, [], ◌∷◌, ℕ, eqb, leb, ℤ, pos}
+use Rattle.std.specs.Prelude.{Bool, cond, ◌&&◌, List, [], ◌∷◌, ℕ, eqb, leb, ℤ, pos, Option, Some, None, Result, Ok, Err}
 use Rattle.answer.specs.declared.Refusal.{Refusal}
 use Rattle.answer.specs.declared.Refusal.TheVariants.{Shape as SHAPE, Range as RANGE, Ask as ASK, Table as TABLE}
-use Rattle.answer.specs.declared.Written.{Written}
 use Rattle.answer.specs.Refusals.{number, refusing}
 use Rattle.answer.specs.Buffers.{written, buffer_after}
 use Rattle.calendar.specs.declared.MonthDay.{MonthDay}
-use Rattle.calendar.specs.declared.YearDate.{YearDate}
-use Rattle.calendar.specs.declared.YearDate.TheVariants.{On, Nothing}
 use Rattle.calendar.specs.Days.{day_of_year}
 use Rattle.calendar.specs.Dates.{date_in_year}
 use Rattle.leap.specs.declared.Table.{Table}
@@ -17,8 +14,6 @@ use Rattle.leap.specs.Leap.{accepted}
 use Rattle.pictures.specs.declared.Date.{Date}
 use Rattle.pictures.specs.declared.Date.TheVariants.{Numbered, OfYear, Named}
 use Rattle.pictures.specs.declared.Fields.{Fields}
-use Rattle.pictures.specs.declared.FieldsAnswer.{FieldsAnswer}
-use Rattle.pictures.specs.declared.FieldsAnswer.TheVariants.{Picture, NoPicture}
 use Rattle.pictures.specs.Pictures.{picture_text}
 use Rattle.pictures.specs.Reading.{read_fields}
 use Rattle.stamp.specs.declared.Scale.{Scale}
@@ -30,8 +25,6 @@ use Rattle.stamp.specs.Scales.{scale_of, known_scale, scale_tests, offsets_of, m
 use Rattle.stamp.specs.Stamps.{no_stamp}
 use Rattle.stamp.specs.Back.{in_range, stamp_at}
 use Rattle.stamp.specs.Promise.{stamp}
-use Rattle.text.specs.declared.TextAnswer.{TextAnswer}
-use Rattle.text.specs.declared.TextAnswer.TheVariants.{Read, Refused}
 
 -- ---- reading
 
@@ -39,9 +32,9 @@ abbrev pub on : ℕ → ℕ → MonthDay
 on m d = record { month = m; day = d }
 
 -- a date that there is; month 0, which is none, where there is not
-abbrev pub date_or : YearDate → MonthDay
-date_or (On r) = r
-date_or Nothing = on 0 0
+abbrev pub date_or : Option MonthDay → MonthDay
+date_or (Some r) = r
+date_or None = on 0 0
 
 -- the month and the day of a date in year y
 abbrev pub month_day_of : ℕ → Date → MonthDay
@@ -57,22 +50,22 @@ reading_of f =
     }
 
 -- a reading is judged as a stamp's fields are
-abbrev pub read_answer : Table → Scale → Reading → TextAnswer
-read_answer t s r = refusing Refused (label_tests (offsets_of t s) (most_second s) r) (Read (instant_for t s r) (stamp s r))
+abbrev pub read_answer : Table → Scale → Reading → Result (ℤ × Stamp) Refusal
+read_answer t s r = refusing Err (label_tests (offsets_of t s) (most_second s) r) (Ok (instant_for t s r, stamp s r))
 
 -- the fields of a text are judged; a text that has no picture is SHAPE
-abbrev pub fields_read : Table → Scale → FieldsAnswer → TextAnswer
-fields_read t s (Picture f) = read_answer t s (reading_of f)
-fields_read t s NoPicture = Refused SHAPE
+abbrev pub fields_read : Table → Scale → Option Fields → Result (ℤ × Stamp) Refusal
+fields_read t s (Some f) = read_answer t s (reading_of f)
+fields_read t s None = Err SHAPE
 
 -- `read_text`, without its mark: what every call asks first, and then the text
-unfoldable pub read_text : Table → ℕ → List ℕ → TextAnswer
-read_text t k text = refusing Refused (scale_tests t k) (fields_read t (scale_of k) (read_fields text))
+unfoldable pub read_text : Table → ℕ → List ℕ → Result (ℤ × Stamp) Refusal
+read_text t k text = refusing Err (scale_tests t k) (fields_read t (scale_of k) (read_fields text))
 
 -- an answer in the scope's numbers: that of the refusal, 0 on success, the instant and the stamp, all zero on a refusal
-abbrev pub text_results : TextAnswer → ℕ × ℤ × Stamp
-text_results (Read x z) = (0, x, z)
-text_results (Refused why) = (number why, pos 0, no_stamp)
+abbrev pub text_results : Result (ℤ × Stamp) Refusal → ℕ × ℤ × Stamp
+text_results (Ok (x, z)) = (0, x, z)
+text_results (Err why) = (number why, pos 0, no_stamp)
 
 -- ---- writing
 
@@ -98,7 +91,7 @@ abbrev pub text_at : Table → ℤ → ℕ → ℕ → ℕ → List ℕ
 text_at t x p k digits = text_of p digits (stamp_at t (scale_of k) x).reading
 
 -- its answer, and the lent buffer afterwards
-abbrev pub write_text : Table → ℤ → ℕ → ℕ → ℕ → List ℕ → Written
+abbrev pub write_text : Table → ℤ → ℕ → ℕ → ℕ → List ℕ → Result ℕ Refusal
 write_text t x p k digits buffer = written (write_tests t x p k digits) (text_at t x p k digits) buffer
 
 abbrev pub write_text_after : Table → ℤ → ℕ → ℕ → ℕ → List ℕ → List ℕ

@@ -2,76 +2,56 @@
 // That 3,075 bytes are enough is `enough_read` of listing's promise; past a third line's end there is nothing that it looks at.
 #![tactic(auto)]
 
-use answer::Written;
-use std::io::Read;
+ghost use Rattle.std.specs.Prelude.{◌≤◌, length};
 
-#[derive(Clone, Copy)]
-pub enum Got {
-    Byte(u8),
-    End,
-}
+use std::io::Read;
 
 fn complain(rt: &HostRuntime, text: &str) {
     let _ = rt.eprintln(text);
 }
 
-// Reads one byte. A read that fails is told, and is the end of the input.
-fn read_byte(rt: &HostRuntime) -> Got {
+// The next byte; none at the end of the input. A read that fails is told, and is the end of the input.
+fn next_byte(rt: &HostRuntime) -> Option<u8> {
     let mut one = [0u8; 1];
     match rt.stdin().read(&mut one) {
-        Ok(0) => Got::End,
-        Ok(_) => Got::Byte(digits::byte_at(&one, 0)),
+        Ok(0) => None,
+        Ok(_) => Some(one[0]),
         Err(_) => {
             complain(rt, "ticks: the input cannot be read");
-            Got::End
+            None
         }
     }
 }
 
-// One more line end where the byte is one.
-fn count_ends(ends: u32, b: u8) -> u32 {
-    if b != 10 {
-        return ends;
-    }
-    if ends < 3 {
-        return ends + 1;
-    }
-    3
-}
-
-// Reads byte by byte up to the third line end, the end of the input or the end of the buffer.
-fn fill(rt: &HostRuntime, buf: &mut [u8]) -> usize {
-    let mut n = 0;
-    let mut ends = 0;
-    while n < buf.len() {
-        if ends == 3 {
-            return n;
-        }
-        let g = read_byte(rt);
-        let Got::Byte(b) = g else {
+// Reads byte by byte up to the third line end, the end of the input or the end of the buffer, and gives how many bytes came.
+// Not bytes of a BufReader: it would take more of the input than three lines.
+fn fill(rt: &HostRuntime, buf: &mut [u8]) -> usize
+    ensures { result ≤ length buf.new }
+{
+    let mut ends = 0u8;
+    for (n, place) in buf.iter_mut().enumerate() {
+        let Some(byte) = next_byte(rt) else {
             return n;
         };
-        buf[n] = b;
-        n += 1;
-        ends = count_ends(ends, b);
-    }
-    n
-}
-
-fn print(rt: &HostRuntime, out: &[u8], w: Written) {
-    if let Written::Wrote(n) = w {
-        let e = lines::front(out, n);
-        if rt.write_all(&out[..e]).is_err() {
-            complain(rt, "ticks: the output cannot be written");
+        *place = byte;
+        if byte == b'\n' {
+            ends += 1;
+        }
+        if ends == 3 {
+            return n + 1;
         }
     }
+    buf.len()
 }
 
 fn main(rt: HostRuntime) {
     let mut buf = [0u8; 3075];
     let mut out = [0u8; listing::MOST];
     let n = fill(&rt, &mut buf);
-    let k = lines::front(&buf, n);
-    let w = listing::list(&buf[..k], &mut out);
-    print(&rt, &out, w);
+    if let Ok(size) = listing::list(&buf[..n], &mut out) {
+        let end = lines::front(&out, size);
+        if rt.write_all(&out[..end]).is_err() {
+            complain(&rt, "ticks: the output cannot be written");
+        }
+    }
 }

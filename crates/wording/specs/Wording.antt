@@ -1,12 +1,10 @@
 -- What the desk answers to a line, and the table afterwards.
 -- Assumes nothing.
-use Rattle.std.specs.Prelude.{ℕ, Bool, cond, List, [], ◌∷◌, ◌++◌, leb, length, take, drop}
+use Rattle.std.specs.Prelude.{ℕ, Bool, cond, List, [], ◌∷◌, ◌++◌, leb, length, take, drop, Option, Some, None}
 use Prim.Native.String.{String}
 use Rattle.answer.specs.declared.Refusal.TheVariants.{Ask as ASK}
 use Rattle.digits.specs.Bytes.{ascii}
 use Rattle.digits.specs.Decimals.{decimal_of}
-use Rattle.digits.specs.declared.Number.{Number}
-use Rattle.digits.specs.declared.Number.TheVariants.{Is, Bad}
 use Rattle.leap.specs.declared.Table.{Table}
 use Rattle.phrases.specs.Parts.{begins_with, up_to, behind}
 use Rattle.phrases.specs.Texts.{long_line, no_number, why_text, help}
@@ -37,9 +35,9 @@ ask_pass t name stamps = pass_reply t name (up_to (ascii " to ") stamps) (behind
 abbrev pub ask_named : Table → List ℕ → Reply
 ask_named t s = ask_pass t (up_to (ascii " from ") s) (behind (ascii " from ") s)
 
-abbrev pub why_answer : List ℕ → Number → Reply
-why_answer given (Is n) = cond (leb 1 n) (answering (why_text n)) (refusing_as 8 no_number given)
-why_answer given Bad = refusing_as 8 no_number given
+abbrev pub why_answer : List ℕ → Option ℕ → Reply
+why_answer given (Some n) = cond (leb 1 n) (answering (why_text n)) (refusing_as 8 no_number given)
+why_answer given None = refusing_as 8 no_number given
 
 -- the number of a refusal
 unfoldable pub ask_why : List ℕ → Reply

@@ -3,7 +3,7 @@
 #![tactic(auto)]
 
 ghost use Rattle.std.specs.Prelude.{◌≡◌, ◌-◌, min, ◌≤◌, length, drop};
-ghost use Rattle.phrases.specs.Parts.{behind as Parts·behind};
+ghost use Rattle.phrases.specs.Parts.{up_to, behind as Parts·behind};
 ghost use Rattle.phrases.specs.Puts.{Puts};
 ghost use Rattle.phrases.specs.Replies.{Says};
 ghost use Rattle.tablewords.specs.Loading.{Loads};
@@ -12,9 +12,8 @@ ghost use Rattle.wording.specs.Wording.{ask_between, ask_show, ask_add, ask_pass
 ghost use Rattle.wording.specs.Summary.{numbers_text, more_text, bad_text, summary_text, part_behind, file_of};
 
 use answer::Refusal;
-use digits::Number;
 use leap::Table;
-use phrases::Said;
+use phrases::{Said, Wrong};
 use tablewords::Loaded;
 
 #[derive(Clone, Copy)]
@@ -92,54 +91,59 @@ fn behind(s: &[u8], word: &[u8]) -> usize
     k + word.len()
 }
 
-fn ask_between(t: Table, rest: &[u8], out: &mut [u8], at: usize) -> Said
-    ensures { Says out.old at (ask_between t rest.now) result out.new }
+// What stands before a word, and behind it; all and nothing where it stands nowhere.
+fn parts_at<'a>(s: &'a [u8], word: &[u8]) -> (&'a [u8], &'a [u8])
+    ensures first { result.0.now ≡ up_to word.now s.now }
+    ensures second { result.1.now ≡ Parts·behind word.now s.now }
 {
-    let k = phrases::up_to(rest, b" and ");
-    let from = behind(rest, b" and ");
-    stampwords::say_between(t, &rest[..k], &rest[from..], out, at)
+    let k = phrases::up_to(s, word);
+    let from = behind(s, word);
+    (&s[..k], &s[from..])
 }
 
-fn ask_show(t: Table, line: &[u8], rest: &[u8], out: &mut [u8], at: usize) -> Said
-    ensures { Says out.old at (ask_show t line.now rest.now) result out.new }
+fn ask_between(t: &Table, rest: &[u8], out: &mut [u8], at: usize) -> Said
+    ensures { Says out.old at (ask_between t.now rest.now) result out.new }
 {
-    let k = phrases::up_to(rest, b" on ");
-    let from = behind(rest, b" on ");
-    stampwords::say_show(t, line, &rest[..k], &rest[from..], out, at)
+    let (first, second) = parts_at(rest, b" and ");
+    stampwords::say_between(t, first, second, out, at)
 }
 
-fn ask_add(t: Table, line: &[u8], rest: &[u8], out: &mut [u8], at: usize) -> Said
-    ensures { Says out.old at (ask_add t line.now rest.now) result out.new }
+fn ask_show(t: &Table, line: &[u8], rest: &[u8], out: &mut [u8], at: usize) -> Said
+    ensures { Says out.old at (ask_show t.now line.now rest.now) result out.new }
 {
-    let k = phrases::up_to(rest, b" to ");
-    let from = behind(rest, b" to ");
-    stampwords::say_add(t, line, &rest[..k], &rest[from..], out, at)
+    let (given, clock) = parts_at(rest, b" on ");
+    stampwords::say_show(t, line, given, clock, out, at)
 }
 
-fn ask_pass(t: Table, name: &[u8], stamps: &[u8], out: &mut [u8], at: usize) -> Said
-    ensures { Says out.old at (ask_pass t name.now stamps.now) result out.new }
+fn ask_add(t: &Table, line: &[u8], rest: &[u8], out: &mut [u8], at: usize) -> Said
+    ensures { Says out.old at (ask_add t.now line.now rest.now) result out.new }
 {
-    let k = phrases::up_to(stamps, b" to ");
-    let from = behind(stamps, b" to ");
-    stampwords::say_pass(t, name, &stamps[..k], &stamps[from..], out, at)
+    let (by, given) = parts_at(rest, b" to ");
+    stampwords::say_add(t, line, by, given, out, at)
 }
 
-fn ask_named(t: Table, rest: &[u8], out: &mut [u8], at: usize) -> Said
-    ensures { Says out.old at (ask_named t rest.now) result out.new }
+fn ask_pass(t: &Table, name: &[u8], stamps: &[u8], out: &mut [u8], at: usize) -> Said
+    ensures { Says out.old at (ask_pass t.now name.now stamps.now) result out.new }
 {
-    let k = phrases::up_to(rest, b" from ");
-    let from = behind(rest, b" from ");
-    ask_pass(t, &rest[..k], &rest[from..], out, at)
+    let (first, second) = parts_at(stamps, b" to ");
+    stampwords::say_pass(t, name, first, second, out, at)
+}
+
+fn ask_named(t: &Table, rest: &[u8], out: &mut [u8], at: usize) -> Said
+    ensures { Says out.old at (ask_named t.now rest.now) result out.new }
+{
+    let (name, stamps) = parts_at(rest, b" from ");
+    ask_pass(t, name, stamps, out, at)
 }
 
 fn ask_why(given: &[u8], out: &mut [u8], at: usize) -> Said
     ensures { Says out.old at (ask_why given.now) result out.new }
 {
-    let Number::Is(n) = digits::decimal(given, 15) else {
-        return phrases::refuse_as(out, at, 8, 20, given);
+    let Some(n) = digits::decimal(given, 15) else {
+        return phrases::refuse_request(out, at, Wrong::NoNumber, given);
     };
     if n < 1 {
-        return phrases::refuse_as(out, at, 8, 20, given);
+        return phrases::refuse_request(out, at, Wrong::NoNumber, given);
     }
     Said {
         at: phrases::put_why(out, at, n as u32),
@@ -150,8 +154,8 @@ fn ask_why(given: &[u8], out: &mut [u8], at: usize) -> Said
 // ---- a line
 
 // Says the reply to a request that leaves the table as it is.
-fn reply(line: &[u8], t: Table, out: &mut [u8], at: usize) -> Said
-    ensures { Says out.old at (reply_to t line.now (request_of line.now)) result out.new }
+fn reply(line: &[u8], t: &Table, out: &mut [u8], at: usize) -> Said
+    ensures { Says out.old at (reply_to t.now line.now (request_of line.now)) result out.new }
 {
     let four = lines::front(line, 4);
     let five = lines::front(line, 5);
@@ -180,8 +184,8 @@ fn reply(line: &[u8], t: Table, out: &mut [u8], at: usize) -> Said
     }
 }
 
-fn asked(line: &[u8], t: Table, readable: bool, file: &[u8], out: &mut [u8], at: usize) -> Loaded
-    ensures { Loads out.old at (requested t readable file.now line.now) result out.new }
+fn asked(line: &[u8], t: &Table, readable: bool, file: &[u8], out: &mut [u8], at: usize) -> Loaded
+    ensures { Loads out.old at (requested t.now readable file.now line.now) result out.new }
 {
     if phrases::begins_with(line, b"table block ") {
         let from = lines::front(line, 12);
@@ -199,17 +203,21 @@ fn asked(line: &[u8], t: Table, readable: bool, file: &[u8], out: &mut [u8], at:
         let from = lines::front(line, 8);
         return tablewords::vouch(t, &line[from..], out, at);
     }
-    let said = reply(line, t, out, at);
-    Loaded { said, table: t }
+    Loaded {
+        said: reply(line, t, out, at),
+        table: *t,
+    }
 }
 
-fn judged(line: &[u8], t: Table, readable: bool, file: &[u8], out: &mut [u8], at: usize) -> Loaded
-    ensures { Loads out.old at (Wording·judged t readable file.now line.now) result out.new }
+fn judged(line: &[u8], t: &Table, readable: bool, file: &[u8], out: &mut [u8], at: usize) -> Loaded
+    ensures { Loads out.old at (Wording·judged t.now readable file.now line.now) result out.new }
 {
     if 1024 < line.len() {
         let k = lines::front(line, 40);
-        let said = phrases::refuse_as(out, at, 8, 16, &line[..k]);
-        return Loaded { said, table: t };
+        return Loaded {
+            said: phrases::refuse_request(out, at, Wrong::LongLine, &line[..k]),
+            table: *t,
+        };
     }
     asked(line, t, readable, file, out, at)
 }
@@ -217,31 +225,30 @@ fn judged(line: &[u8], t: Table, readable: bool, file: &[u8], out: &mut [u8], at
 // Says the answer to a line, with its line feed, and gives the table afterwards. `file` is what the file that `file_of` names holds.
 pub fn answer(
     line: &[u8],
-    t: Table,
+    t: &Table,
     readable: bool,
     file: &[u8],
     out: &mut [u8],
     at: usize,
 ) -> Loaded
-    ensures { Loads out.old at (answered t readable file.now line.now) result out.new }
+    ensures { Loads out.old at (answered t.now readable file.now line.now) result out.new }
 {
-    let a = judged(line, t, readable, file, out, at);
-    let s = a.said;
-    let table = a.table;
-    let said = Said {
-        at: phrases::put(out, s.at, b"\n"),
-        good: s.good,
-    };
-    Loaded { said, table }
+    let Loaded { said, table } = judged(line, t, readable, file, out, at);
+    Loaded {
+        said: Said {
+            at: phrases::put(out, said.at, b"\n"),
+            good: said.good,
+        },
+        table,
+    }
 }
 
 // The part of a line behind its first n bytes.
 fn part_behind(line: &[u8], n: usize) -> Part
     ensures { result ≡ part_behind n line.now }
 {
-    let from = lines::front(line, n);
     Part {
-        from,
+        from: lines::front(line, n),
         end: line.len(),
     }
 }
@@ -270,11 +277,9 @@ fn put_numbers(numbers: &[u64; 20], n: usize, out: &mut [u8], at: usize) -> usiz
     ensures { Puts out.old at (numbers_text numbers.now n) result out.new }
 {
     let mut next = phrases::put(out, at, b"");
-    let mut i = 0;
-    while i < n {
+    for i in 0..n {
         let a = phrases::put(out, next, b" ");
         next = phrases::put_unsigned(out, a, numbers[i]);
-        i += 1;
     }
     next
 }
@@ -290,13 +295,6 @@ fn put_more(bad: u64, out: &mut [u8], at: usize) -> usize
     phrases::put(out, b, b" more")
 }
 
-// How many of the bad lines are told by number.
-fn told(bad: u64) -> usize
-    ensures { (result ≡ min bad 20) × (result ≤ 20) }
-{
-    if bad < 20 { bad as usize } else { 20 }
-}
-
 fn put_bad(bad: u64, first: &[u64; 20], out: &mut [u8], at: usize) -> usize
     ensures { Puts out.old at (bad_text bad first.now) result out.new }
 {
@@ -304,21 +302,15 @@ fn put_bad(bad: u64, first: &[u64; 20], out: &mut [u8], at: usize) -> usize
         return phrases::put(out, at, b"");
     }
     let a = phrases::put(out, at, b" - not good:");
-    let b = put_numbers(first, told(bad), out, a);
+    let b = put_numbers(first, bad.min(20) as usize, out, a);
     put_more(bad, out, b)
-}
-
-fn less(a: u64, b: u64) -> u64
-    ensures { result ≡ a - b }
-{
-    if a < b { 0 } else { a - b }
 }
 
 // Puts the last line: of so many lines so many were not good, the first of them these.
 pub fn summary(count: u64, bad: u64, first: &[u64; 20], out: &mut [u8], at: usize) -> usize
     ensures { Puts out.old at (summary_text count bad first.now) result out.new }
 {
-    let a = phrases::put_unsigned(out, at, less(count, bad));
+    let a = phrases::put_unsigned(out, at, count.saturating_sub(bad));
     let b = phrases::put(out, a, b" of ");
     let c = phrases::put_unsigned(out, b, count);
     let d = phrases::put(out, c, b" lines good");

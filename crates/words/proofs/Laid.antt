@@ -1,13 +1,13 @@
 -- A list laid over another place by place, as a loop does it, and the words of a table so laid.
 -- Assumes nothing.
-use mathlib.Core.Path.{◌≡◌, sym, ap, subst, ◌∙◌}
+use mathlib.Core.Path.{◌≡◌, refl, sym, ap, subst, ◌∙◌}
 use mathlib.Core.List.{List, [], ◌∷◌, ◌++◌, append_assoc, append-nil}
 use Prim.Native.Nat.{ℕ, ◌+◌, ◌≤◌, ◌<◌}
 use native.Mathlib.Nat.{zero-add}
 use native.Mathlib.Numerals.{add-one}
 use native.Mathlib.Omega.{arith}
-use lib.ListN.{length, get_or, set, take, drop, length-take, length-append, drop_of_length-le}
-use lib.Seq.{take_all, take-suc, drop-append_seam}
+use lib.ListN.{length, get_or, set, take, length-take, length-append, drop_of_length-le}
+use lib.Seq.{take_all, take-suc}
 use Rattle.laws.specs.Placed.{place}
 use Rattle.laws.proofs.Placed.{place_zero, place_none, place_one, place_then, length_place}
 
@@ -46,18 +46,14 @@ module _ {A : Type 0} where
   pub place_whole : (old new : List A) → length new ≡ length old → place old 0 new ≡ new
   place_whole old new e = place_zero old new ∙ ap (λ (l : List A). new ++ l) (drop_of_length-le old {i = length new} (omega arith)) ∙ append-nil new
 
--- months and the words of offsets, laid one after the other over as many zeros between the first word and the last
-module _ (first last : ℕ) (months words zeros : List ℕ) (m : length months ≡ 64) (w : length words ≡ 64) (z : length zeros ≡ 128) where
-  pub table_laid : {a b : List ℕ} → a ≡ place (first ∷ (zeros ++ last ∷ [])) 1 months → b ≡ place a 65 words → b ≡ first ∷ (months ++ (words ++ last ∷ []))
-  table_laid e f =
-      let p : 65 ≡ 1 + length months = omega arith in
-      let q : 1 + length (months ++ words) ≡ length (first ∷ zeros) = omega (arith, length-append months words) in
-      f
-      ∙ place_then (first ∷ (zeros ++ last ∷ [])) 1 months words {j = 65} e p (omega (arith, length-append zeros (last ∷ [])))
-      ∙ ap (λ (k : ℕ). first ∷ ((months ++ words) ++ drop k (first ∷ (zeros ++ last ∷ [])))) q
-      ∙ ap (λ (l : List ℕ). first ∷ ((months ++ words) ++ l)) (drop-append_seam (first ∷ zeros) (last ∷ []))
-      ∙ ap (λ (l : List ℕ). first ∷ l) (append_assoc months words (last ∷ []))
-
--- the length stays
-pub length_laid : (o : List ℕ) (i : ℕ) (new : List ℕ) {a : List ℕ} → i + length new ≤ length o → a ≡ place o i new → length a ≡ length o
-length_laid o i new h e = ap length e ∙ length_place o i new h
+-- a count, months, the words of offsets and the number of a month, laid one after the other over as many words
+pub table_laid : (old : List ℕ) {a b : List ℕ} (count vouched : ℕ) (months words : List ℕ) → length old ≡ 130 → length months ≡ 64 → length words ≡ 64 → a ≡ place (set old 0 count) 1 months → b ≡ place a 65 words → set b 129 vouched ≡ count ∷ (months ++ (words ++ vouched ∷ []))
+table_laid old {a} {b} count vouched months words l m w e f =
+    let q : 1 + length months ≡ length (count ∷ months) = omega arith in
+    let p : a ≡ place old 0 (count ∷ months) = e ∙ place_then old 0 (count ∷ []) months {j = 1} (place_one old 0 count (omega arith)) refl (omega arith) in
+    let r : b ≡ place old 0 (count ∷ (months ++ words)) = f ∙ place_then old 0 (count ∷ months) words {j = 65} p (omega arith) (omega arith) in
+    let n : length b ≡ 130 = ap length r ∙ length_place old 0 (count ∷ (months ++ words)) (omega (arith, length-append months words)) ∙ l in
+    place_one b 129 vouched (omega arith)
+    ∙ place_then old 0 (count ∷ (months ++ words)) (vouched ∷ []) {j = 129} r (omega (arith, length-append months words)) (omega arith)
+    ∙ place_whole old (count ∷ ((months ++ words) ++ vouched ∷ [])) (omega (arith, length-append months words, length-append (months ++ words) (vouched ∷ [])))
+    ∙ ap (λ (x : List ℕ). count ∷ x) (append_assoc months words (vouched ∷ []))

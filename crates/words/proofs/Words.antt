@@ -2,12 +2,12 @@
 -- Assumes nothing.
 use mathlib.Core.Path.{◌≡◌, refl, sym, ap, ap₂, ◌∙◌}
 use mathlib.Core.List.{List, [], ◌∷◌, ◌++◌, map, append-nil, append_assoc}
-use Prim.Native.Nat.{ℕ, zero, suc, ◌+◌, ◌%◌, ◌<◌}
+use Prim.Native.Nat.{ℕ, zero, suc, ◌+◌, ◌%◌, ◌≤◌, ◌<◌}
 use native.Mathlib.Nat.{add-zero, zero-add}
 use native.Mathlib.Omega.{arith}
 use lib.IntN.{ℤ, pos}
-use lib.ListN.{length, get_or, length-append, length-map, get_or-append}
-use lib.Seq.{ext_get_or, get_or-append-add}
+use lib.ListN.{length, get_or, take, drop, length-take, length-drop, length-append, length-map, get_or-append}
+use lib.Seq.{ext_get_or, get_or-take, get_or-drop, get_or-append-add}
 use mir.Syntax.{w32}
 use mir.Val.{Fits, SFits}
 use mir.Facts.{to_z-of_z, of_z-to_z}
@@ -32,6 +32,15 @@ at_is i (suc n) words zero h = ap (λ (j : ℕ). get_or words j 0) (sym (add-zer
 at_is i (suc n) words (suc k) h =
     let e : i + 1 + k ≡ i + suc k = omega arith in
     at_is (i + 1) n words k (omega arith) ∙ ap (λ (j : ℕ). get_or words j 0) e
+
+-- they are a part
+pub at_part : (i n : ℕ) (words : List ℕ) → i + n ≤ length words → words_at i n words ≡ take n (drop i words)
+at_part i n words h =
+    let e : length (take n (drop i words)) ≡ n = simp (length-take, length-drop) (omega arith) in
+    ext_get_or 0 (words_at i n words) (take n (drop i words)) (length_at i n words ∙ sym e)
+    (λ k l.
+    let m : k < n = omega (arith, length_at i n words) in
+    at_is i n words k m ∙ sym (get_or-take n (drop i words) k 0 m ∙ get_or-drop i words k 0))
 
 -- between what stands before and after
 at_among : (before mid after : List ℕ) {i n : ℕ} → length before ≡ i → length mid ≡ n → words_at i n (before ++ (mid ++ after)) ≡ mid

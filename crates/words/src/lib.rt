@@ -9,97 +9,55 @@ use leap::Table;
 
 // ---- a table out of its words
 
-// No cast keeps the bits of a number with its top bit set, so these go by its distance from -1; both compile to nothing.
-fn offset_of(word: u32) -> i32
-    ensures { result ≡ offset_from word }
-{
-    if word < 2147483648 {
-        return word as i32;
-    }
-    -1 - ((4294967295 - word) as i32)
-}
-
-fn count_of(word: u32) -> usize
-    ensures { result ≡ word }
-{
-    word as usize
-}
-
 fn months_of(words: &[u32; 130]) -> [u32; 64]
     ensures { result ≡ words_at 1 64 words.now }
 {
     let mut months = [0; 64];
-    let mut k = 0;
-    while k < 64 {
-        months[k] = words[1 + k];
-        k += 1;
-    }
+    months.copy_from_slice(&words[1..65]);
     months
 }
 
+// An index, as in store_offsets: array::from_fn says only that some closure gave each element, and zip over iter_mut nothing of what was written.
 fn offsets_of(words: &[u32; 130]) -> [i32; 64]
     ensures { result ≡ map offset_from (words_at 65 64 words.now) }
 {
     let mut offsets = [0; 64];
-    let mut k = 0;
-    while k < 64 {
-        offsets[k] = offset_of(words[65 + k]);
-        k += 1;
+    for k in 0..64 {
+        offsets[k] = words[65 + k].cast_signed();
     }
     offsets
 }
 
+#[tactic(auto, unfolding(crate::specs::Words::table_from))]
 pub fn table_of(words: &[u32; 130]) -> Table
     ensures { result ≡ table_from words.now }
 {
-    let count = count_of(words[0]);
-    let months = months_of(words);
-    let offsets = offsets_of(words);
-    leap::tabled(count, &months, &offsets, words[129])
+    let count = words[0] as usize;
+    Table::new(count, months_of(words), offsets_of(words), words[129])
 }
 
 // ---- and back
 
-fn word_of(offset: i32) -> u32
-    ensures { result ≡ offset_word offset }
+fn store_months(months: &[u32; 64], out: &mut [u32; 130])
+    ensures { out.new ≡ place out.old 1 months.now }
 {
-    if offset < 0 {
-        return 4294967295 - ((-1 - offset) as u32);
-    }
-    offset as u32
+    out[1..65].copy_from_slice(months);
 }
 
-fn store_months(months: [u32; 64], out: &mut [u32; 130])
-    requires { length out.old ≡ 130 }
-    ensures { (length months ≡ 64) × (out.new ≡ place out.old 1 months) }
+fn store_offsets(offsets: &[i32; 64], out: &mut [u32; 130])
+    ensures { out.new ≡ place out.old 65 (map offset_word offsets.now) }
 {
-    let mut k = 0;
-    while k < 64 {
-        out[1 + k] = months[k];
-        k += 1;
+    for k in 0..64 {
+        out[65 + k] = offsets[k].cast_unsigned();
     }
 }
 
-fn store_offsets(offsets: [i32; 64], out: &mut [u32; 130])
-    requires { length out.old ≡ 130 }
-    ensures { (length offsets ≡ 64) × (out.new ≡ place out.old 65 (map offset_word offsets)) }
+// A word has 32 bits, and so a count its lowest 32.
+pub fn store_table(t: &Table, out: &mut [u32; 130])
+    ensures { out.new ≡ table_words t.now }
 {
-    let mut k = 0;
-    while k < 64 {
-        let offset = offsets[k];
-        out[65 + k] = word_of(offset);
-        k += 1;
-    }
-}
-
-pub fn store_table(t: Table, out: &mut [u32; 130])
-    ensures { out.new ≡ table_words t }
-{
-    let months = t.months;
-    let offsets = t.offsets;
-    *out = [0; 130];
     out[0] = (t.count % 4294967296) as u32;
+    store_months(&t.months, out);
+    store_offsets(&t.offsets, out);
     out[129] = t.vouched;
-    store_months(months, out);
-    store_offsets(offsets, out);
 }

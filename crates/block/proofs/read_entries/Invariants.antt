@@ -7,7 +7,4 @@ use Rattle.block.proofs.read_entries.Given as goal
 
 abbrev pub invariant-loop-k : goal.invariant-loop-k
 invariant-loop-k l =
-    Reading l.s (read_entries l.vouched (l.count - 1) first_entry l.start (drop l.start l.s)) l.vouched l.count l.months l.offsets l.at l.k
-
-abbrev pub decreases-loop-k : goal.decreases-loop-k
-decreases-loop-k l = l.count - l.k
+    Reading l.s (read_entries l.vouched (l.count - 1) first_entry l.start (drop l.start l.s)) l.vouched l.count l.t.months l.t.offsets l.at l.k

@@ -4,9 +4,8 @@ use borrow.Author.Rules.{rules}
 use lib.IntN.{pos}
 use mir.Syntax.{w32}
 use mir.Val.{SFits}
-use lib.ListN.{get_or}
+use lib.ListN.{length, get_or}
 use mir.Facts.{to_z-of_z}
-use Rattle.leap.specs.Leap.{tabled}
 use Rattle.leap.specs.Entries.{entry}
 use Rattle.leap.proofs.Facts.{accepted_to}
 use Rattle.leap.proofs.Offsets.{small}
@@ -17,18 +16,20 @@ use Rattle.cards.proofs.Storing.{stored_none, stored_more, stored_all}
 use Rattle.cards.proofs.cards_of.Goals as goal
 
 pub loop-k-init : goal.loop-k-init
-loop-k-init c = stored_none (accepted_to (tabled c.args.count c.args.months.now c.args.offsets.now) c.requires.0) c.requires.1
+loop-k-init c =
+    let long : length c.args.bytes.now ≡ 5184 = search rules in
+    stored_none (accepted_to c.args.t.now c.requires.0) c.requires.1 long
 
 pub image-card-requires : goal.image-card-requires
 image-card-requires c =
-    let t = tabled c.args.count c.args.months.now c.args.offsets.now in
-    let f : SFits w32 (get_or c.args.offsets.now c.loop-k.k (pos 0)) = search rules in
+    let t = c.args.t.now in
+    let f : SFits w32 (get_or t.offsets c.loop-k.k (pos 0)) = search rules in
     (month_early t c.loop-k.invariant.early c.loop-k.k c.loop-k-test.true, rw (to_z-of_z f) (small c.loop-k.invariant.right c.loop-k.k c.loop-k-test.true))
 
 pub loop-k-preserved : goal.loop-k-preserved
 loop-k-preserved c =
-    let t = tabled c.args.count c.args.months.now c.args.offsets.now in
-    let f : SFits w32 (get_or c.args.offsets.now c.loop-k.k (pos 0)) = search rules in
+    let t = c.args.t.now in
+    let f : SFits w32 (get_or t.offsets c.loop-k.k (pos 0)) = search rules in
     let shown : c.image-card.result ≡ card_text (entry t c.loop-k.k) = rw (to_z-of_z f) at c.image-card.ensures in
     stored_more c.loop-k.invariant c.loop-k-test.true (same_text _ _ c.append-len.result shown c.append-len.ensures) c.append-len-in-loop-k.ensures
 

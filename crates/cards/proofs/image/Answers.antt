@@ -3,7 +3,6 @@ use mathlib.Core.Path.{◌≡◌}
 use native.Mathlib.Omega.{arith}
 use lib.ListN.{length}
 use mir.Syntax.{w64}
-use mir.Facts.{to_z-of_z, sfits_widen}
 use Rattle.laws.proofs.Machine.{read1, widened}
 use Rattle.digits.specs.Decimals.{signed_text}
 use Rattle.digits.proofs.Short.{signed_short}
@@ -16,9 +15,6 @@ width c = read1 (λ z. length (signed_text z)) c.ranges.offset c.signed_width.en
 
 pub overflow_sub-signed_width : goal.overflow_sub-signed_width
 overflow_sub-signed_width c = omega (arith, width (goal.at.overflow_sub-signed_width c).After-signed_width, signed_short c.args.offset c.requires.1)
-
-pub overflow_cast-offset : goal.overflow_cast-offset
-overflow_cast-offset c = let f = c.ranges.offset in rw (to_z-of_z f) (sfits_widen tt f)
 
 pub returns : goal.returns
 returns c =

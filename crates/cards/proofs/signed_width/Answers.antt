@@ -19,6 +19,6 @@ pub returns-then-z-lt10 : goal.returns-then-z-lt10
 returns-then-z-lt10 c = let z = c.args.z in
     omega (arith, width_is z c.requires, one_side z, lt_z_false z (pos 0) (rw (to_z-of_z c.ranges.z) at c.if-z-lt0.false), lt_z_true z (pos 10) (rw (to_z-of_z c.ranges.z) at c.if-z-lt10.true))
 
-pub returns : goal.returns
-returns c = let z = c.args.z in
+pub returns-else-z-lt10 : goal.returns-else-z-lt10
+returns-else-z-lt10 c = let z = c.args.z in
     omega (arith, c.requires, width_is z c.requires, one_side z, lt_z_false z (pos 10) (rw (to_z-of_z c.ranges.z) at c.if-z-lt10.false))

@@ -22,17 +22,8 @@ module _ (s : List ℕ) {a b : ℕ} (p : a ≡ digit_value (get_or s 0 0)) (q : 
   of_1900s : 50 ≤ a * 10 + b → 1900 + (a * 10 + b) ≡ year_in s
   of_1900s l = if_not_less _ l refl ∙ ap (λ y. cond (ltb y 50) (2000 + y) (1900 + y)) two
 
-pub overflow_mul-yy : goal.overflow_mul-yy
-overflow_mul-yy c = omega (arith, c.digit_at.ensures.1)
-
-pub overflow_add-yy : goal.overflow_add-yy
-overflow_add-yy c = omega (arith, c.digit_at.ensures.1, c.digit_at-2.ensures.1)
-
 pub returns-then-yy-lt50 : goal.returns-then-yy-lt50
 returns-then-yy-lt50 c = (of_2000s c.args.s.now c.digit_at.ensures.0 c.digit_at-2.ensures.0 c.if-yy-lt50.true, omega (arith, c.if-yy-lt50.true))
 
-pub overflow_add-result-2 : goal.overflow_add-result-2
-overflow_add-result-2 c = omega (arith, c.digit_at.ensures.1, c.digit_at-2.ensures.1)
-
-pub returns : goal.returns
-returns c = (of_1900s c.args.s.now c.digit_at.ensures.0 c.digit_at-2.ensures.0 c.if-yy-lt50.false, omega (arith, c.digit_at.ensures.1, c.digit_at-2.ensures.1))
+pub returns-else-yy-lt50 : goal.returns-else-yy-lt50
+returns-else-yy-lt50 c = (of_1900s c.args.s.now c.digit_at.ensures.0 c.digit_at-2.ensures.0 c.if-yy-lt50.false, omega (arith, c.digit_at.ensures.1, c.digit_at-2.ensures.1))

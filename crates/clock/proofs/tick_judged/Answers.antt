@@ -8,7 +8,7 @@ use mir.Val.{SFits}
 use mir.Facts.{to_z-of_z}
 use Rattle.answer.proofs.Orders.{refused, passed}
 use Rattle.months.specs.Months.{month_length}
-use Rattle.leap.specs.Leap.{tabled, offset_at}
+use Rattle.leap.specs.Leap.{offset_at}
 use Rattle.labels.specs.declared.Month.{Month}
 use Rattle.labels.specs.Labels.{Offsets, whole, month_of, minute_in, minute_length}
 use Rattle.labels.proofs.Facts.{second_no, second_yes}
@@ -19,7 +19,7 @@ use Rattle.clock.proofs.tick_judged.Goals.{After-minute_length-seconds}
 
 module _ (c : goal.After-minute_length-seconds) where
   abbrev o : Offsets
-  o = offset_at (tabled c.args.count c.args.months.now c.args.offsets.now)
+  o = offset_at c.args.t.now
 
   given : Fields 60 (whole c.args.l) c.args.month
   given = judged_fields 60 (whole c.args.l) c.args.month c.requires

@@ -1,12 +1,8 @@
-use mathlib.Core.Path.{◌≡◌}
-use Prim.Native.Nat.{◌-◌, ◌≤◌}
-use lib.ListN.{length, drop}
+-- What the digits passed give, and those to come, is the whole.
+use Rattle.std.proofs.Common.{◌≡◌, ◌≤◌, drop}
 use Rattle.digits.specs.Decimals.{decimal_of}
 use Rattle.digits.proofs.Decimals.{judged}
 use Rattle.digits.proofs.decimal.Given as goal
 
-abbrev pub invariant-loop-i : goal.invariant-loop-i
-invariant-loop-i l = (l.i ≤ length l.word) × (l.n ≤ l.most) × (judged l.most l.n (drop l.i l.word) ≡ decimal_of l.most l.word)
-
-abbrev pub decreases-loop-i : goal.decreases-loop-i
-decreases-loop-i l = length l.word - l.i
+abbrev pub invariant-loop-b : goal.invariant-loop-b
+invariant-loop-b l = (l.n ≤ l.most) × (judged l.most l.n (drop l.b-index l.word) ≡ decimal_of l.most l.word)

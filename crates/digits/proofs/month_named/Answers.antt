@@ -1,25 +1,23 @@
 -- None of the months passed has the name.
-use mathlib.Core.Path.{◌≡◌, refl, sym, ◌∙◌}
-use native.Mathlib.Omega.{arith}
-use borrow.Author.Rules.{rules}
+use Rattle.std.proofs.Common.{◌≡◌, ◌-◌, refl, sym, ◌∙◌, arith}
 use Rattle.digits.specs.Months.{among_months, month_named}
 use Rattle.digits.proofs.Months.{named_yes, named_no}
 use Rattle.digits.proofs.month_named.Goals as goal
 
-pub loop-month-init : goal.loop-month-init
+pub loop-passed-init : goal.loop-passed-init
 unfolding month_named
-loop-month-init c = (search rules, refl)
+loop-passed-init c = refl
 
 pub returns-then-is_named : goal.returns-then-is_named
 returns-then-is_named c =
-    let l = c in
-    sym (named_yes l.loop-month.month _ (omega arith) (sym c.is_named.ensures ∙ c.if-is_named.true)) ∙ l.loop-month.invariant.1
+    let l = c.loop-passed in
+    sym (named_yes (12 - l.passed) _ (omega arith) (sym c.is_named.ensures ∙ c.if-is_named.true)) ∙ l.invariant
 
-pub loop-month-preserved : goal.loop-month-preserved
-loop-month-preserved c =
-    let l = c in
-    (omega arith, sym (named_no l.loop-month.month _ (omega arith) (sym c.is_named.ensures ∙ c.if-is_named.false)) ∙ l.loop-month.invariant.1)
+pub loop-passed-preserved : goal.loop-passed-preserved
+loop-passed-preserved c =
+    let l = c.loop-passed in
+    sym (named_no (12 - l.passed) _ (omega arith) (sym c.is_named.ensures ∙ c.if-is_named.false)) ∙ l.invariant
 
 pub returns : goal.returns
 unfolding among_months
-returns c = let z : c.loop-month.month ≡ 0 = omega arith in rw z at c.loop-month.invariant.1
+returns c = let z : 12 - c.loop-passed.passed ≡ 0 = omega arith in rw z at c.loop-passed.invariant

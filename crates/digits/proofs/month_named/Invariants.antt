@@ -1,11 +1,7 @@
-use Prim.Native.Nat.{◌≤◌}
-use mathlib.Core.List.{[], ◌∷◌}
-use mathlib.Core.Path.{◌≡◌}
+-- None of the months passed has the name.
+use Rattle.std.proofs.Common.{◌≡◌, [], ◌∷◌, ◌-◌}
 use Rattle.digits.specs.Months.{among_months, month_named}
 use Rattle.digits.proofs.month_named.Given as goal
 
-abbrev pub invariant-loop-month : goal.invariant-loop-month
-invariant-loop-month l = (l.month ≤ 12) × (among_months l.month (l.a ∷ l.b ∷ l.c ∷ []) ≡ month_named (l.a ∷ l.b ∷ l.c ∷ []))
-
-abbrev pub decreases-loop-month : goal.decreases-loop-month
-decreases-loop-month l = l.month
+abbrev pub invariant-loop-passed : goal.invariant-loop-passed
+invariant-loop-passed l = among_months (12 - l.passed) (l.a ∷ l.b ∷ l.c ∷ []) ≡ month_named (l.a ∷ l.b ∷ l.c ∷ [])

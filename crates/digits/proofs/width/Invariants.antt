@@ -1,10 +1,7 @@
-use Prim.Native.Nat.{◌+◌, ◌-◌, ◌/◌, ◌^◌, ◌≤◌}
-use mathlib.Core.Path.{◌≡◌}
+-- The digits passed, and those of what is left above them.
+use Rattle.std.proofs.Common.{◌≡◌, ◌+◌, ◌-◌, ◌/◌, ◌^◌, ◌≤◌}
 use Rattle.digits.specs.Decimals.{width_of}
 use Rattle.digits.proofs.width.Given as goal
 
 abbrev pub invariant-loop-k : goal.invariant-loop-k
-invariant-loop-k l = (1 ≤ l.k) × (l.k ≤ 19) × (l.power ≡ 10 ^ l.k) × (l.k + width_of (21 - l.k) (l.n / 10 ^ (l.k - 1)) ≡ width_of 20 l.n + 1)
-
-abbrev pub decreases-loop-k : goal.decreases-loop-k
-decreases-loop-k l = 19 - l.k
+invariant-loop-k l = (1 ≤ l.k) × (l.power ≡ 10 ^ l.k) × (l.k + width_of (21 - l.k) (l.n / 10 ^ (l.k - 1)) ≡ width_of 20 l.n + 1)

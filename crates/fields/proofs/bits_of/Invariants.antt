@@ -1,11 +1,7 @@
-use Prim.Native.Nat.{◌-◌, ◌≤◌, ◌<◌, ◌^◌}
-use mathlib.Core.Path.{◌≡◌}
-use lib.ListN.{drop}
+-- What the digits passed give, and those to come, is the whole; sixteen digits fit.
+use Rattle.std.proofs.Common.{◌≡◌, ◌<◌, ◌^◌, drop}
 use Rattle.fields.specs.Words.{nibbled, pattern_of}
 use Rattle.fields.proofs.bits_of.Given as goal
 
-abbrev pub invariant-loop-i : goal.invariant-loop-i
-invariant-loop-i l = (l.i ≤ 16) × (l.n < 16 ^ l.i) × (nibbled l.n (drop l.i l.word) ≡ pattern_of l.word)
-
-abbrev pub decreases-loop-i : goal.decreases-loop-i
-decreases-loop-i l = 16 - l.i
+abbrev pub invariant-loop-b : goal.invariant-loop-b
+invariant-loop-b l = (l.n < 16 ^ l.b-index) × (nibbled l.n (drop l.b-index l.word) ≡ pattern_of l.word)

@@ -1,23 +1,20 @@
 -- By the word's first byte.
-use mathlib.Core.Path.{◌∙◌}
-use lib.ListN.{length}
+use Rattle.std.proofs.Common.{◌∙◌, length, sym, arith}
 use Rattle.fields.proofs.Words.{hex_empty, hex_dash, hex_dashed, word_plain}
 use Rattle.fields.proofs.hex_word.Goals as goal
 
-pub returns-then-word-eq0 : goal.returns-then-word-eq0
-returns-then-word-eq0 c =
-    let a = c.args in hex_empty a.out.now a.word.now c.if-word-eq0.true
+pub returns-in_default : goal.returns-in_default
+returns-in_default c = hex_empty c.args.out.now c.args.word.now (omega (arith, c.in_default.len_below))
 
-pub returns-then-word-eq1 : goal.returns-then-word-eq1
-returns-then-word-eq1 c =
-    let a = c.args in hex_dash a.out.now a.word.now c.if-word-eq0.false c.if-word-eq45.true c.if-word-eq1.true
+pub returns-then-first-ne45 : goal.returns-then-first-ne45
+returns-then-first-ne45 c =
+    let h = c.hex.ensures in
+    (h.0 ∙ word_plain (length c.args.out.now) c.args.word.now (λ e. omega (arith, e, c.in-len1-up.len_at_least)) c.if-first-ne45.true, h.1)
 
-pub returns-then-word-eq45 : goal.returns-then-word-eq45
-returns-then-word-eq45 c =
-    let a = c.args in hex_dashed a.out.now a.word.now c.if-word-eq0.false c.if-word-eq45.true c.if-word-eq1.false
+pub returns-then-is_empty : goal.returns-then-is_empty
+returns-then-is_empty c =
+    hex_dash c.args.out.now c.args.word.now (λ e. omega (arith, e, c.in-len1-up.len_at_least)) c.if-first-ne45.false (sym c.is_empty.ensures) c.if-is_empty.true
 
-pub returns : goal.returns
-returns c =
-    let h = c.hex in
-    let a = c.args in
-    (h.ensures.0 ∙ word_plain (length a.out.now) a.word.now c.if-word-eq0.false c.if-word-eq45.false, h.ensures.1)
+pub returns-else-is_empty : goal.returns-else-is_empty
+returns-else-is_empty c =
+    hex_dashed c.args.out.now c.args.word.now (λ e. omega (arith, e, c.in-len1-up.len_at_least)) c.if-first-ne45.false (sym c.is_empty.ensures) c.if-is_empty.false

@@ -1,16 +1,15 @@
 -- Past the end, no blank, or up to the next blank.
-use native.Mathlib.Omega.{arith}
+use Rattle.std.proofs.Common.{arith}
 use Rattle.fields.proofs.Words.{word_none, word_past, word_some}
 use Rattle.fields.proofs.next_word.Goals as goal
+use Rattle.fields.proofs.next_word.Goals.{then-line-at-via-then-line-at, then-line-at-via-else-line-at+then-line-at-ne32}
 
 pub returns-then-line-at : goal.returns-then-line-at
 returns-then-line-at c =
-    let a = c.args in let w = word_past a.line.now a.at (omega arith) in (w.0, w.1, omega arith, omega arith)
-
-pub returns-then-line-at-ne32 : goal.returns-then-line-at-ne32
-returns-then-line-at-ne32 c =
-    let a = c.args in let w = word_none a.line.now a.at c.if-line-at-ne32.true in (w.0, w.1, omega arith, omega arith)
+    elim c.then-line-at.branch [
+      | then-line-at-via-then-line-at w ↦ word_past c.args.line.now c.args.at (omega (arith, w.if-line-at))
+      | then-line-at-via-else-line-at+then-line-at-ne32 w ↦ word_none c.args.line.now c.args.at w.if-line-at-ne32.true
+    ]
 
 pub returns : goal.returns
-returns c =
-    let a = c.args in let w = word_some a.line.now a.at c.if-line-at-ne32.false c.until-end.ensures.value in (w.0, w.1, c.until-end.ensures.upper_bound.1, c.until-end.ensures.upper_bound.0 (omega arith))
+returns c = word_some c.args.line.now c.args.at c.if-line-at-ne32.false c.until-end.ensures.value

@@ -7,6 +7,5 @@ use Rattle.fields.proofs.number_field.Goals as goal
 pub returns : goal.returns
 unfolding natural_at
 returns c =
-    let a = c.args in
-    let n = c.next_word-w.ensures in
-    field_is (natural_of a.most) field_of a.line.now a.c c.filled.ensures c.natural-a.ensures n.0 n.1
+    let n = c.next_word-end.ensures in
+    field_is (natural_of c.args.most) (field_of 0) c.args.line.now c.args.c c.filled.ensures c.natural.ensures n.0 n.1

@@ -7,6 +7,5 @@ use Rattle.fields.proofs.pattern_field.Goals as goal
 pub returns : goal.returns
 unfolding pattern_at
 returns c =
-    let a = c.args in
-    let n = c.next_word-w.ensures in
-    field_is pattern_of field_of a.line.now a.c c.filled.ensures c.bits_of-bits.ensures n.0 n.1
+    let n = c.next_word-end.ensures in
+    field_is pattern_of (field_of 0) c.args.line.now c.args.c c.filled.ensures c.bits_of-bits.ensures n.0 n.1

@@ -1,5 +1,5 @@
 -- `julian::in_years` meets its contract: the code has its two numbers by their bit patterns.
-use Rattle.std.proofs.Common.{refl}
+use Rattle.std.proofs.Common.{refl, ◌∙◌}
 use lib.Ieee.{of_bits}
 use Rattle.laws.proofs.Branches.{and_no, and_rest}
 use Rattle.julian.specs.Midnight.{midnight_in_years}
@@ -9,6 +9,6 @@ pub returns-then-x : goal.returns-then-x
 unfolding midnight_in_years of_bits
 returns-then-x c = and_rest c.if-x.true refl
 
-pub returns : goal.returns
+pub returns-else-x : goal.returns-else-x
 unfolding midnight_in_years of_bits
-returns c = and_no _ c.if-x.false
+returns-else-x c = c.if-x.false ∙ and_no _ c.if-x.false

@@ -1,18 +1,20 @@
 -- `julian::read_in` meets its contract: the pair's tests in their order, and then the day and its microsecond.
+use Rattle.std.specs.Prelude.{Result}
+use lib.IntN.{ℤ}
+use Rattle.answer.specs.declared.Refusal.{Refusal}
 use Rattle.std.proofs.Common.{◌≡◌, ℕ, ◌*◌, ◌^◌, ◌<◌, ◌≤◌, Bool, true, false, sym, ap, ◌∙◌, ap₂, arith, le-ltb, lt-ltb}
 use Rattle.answer.proofs.Orders.{passed}
 use Rattle.leap.specs.declared.Table.{Table}
-use Rattle.leap.specs.Leap.{tabled, vouched_to}
 use Rattle.labels.specs.Labels.{Offsets}
 use Rattle.labels.specs.Lengths.{day_micros}
 use Rattle.labels.proofs.Lengths.{day_range}
+use Rattle.answer.specs.declared.Marked.{Marked}
+use Rattle.answer.specs.Marks.{marked}
 use Rattle.stamp.specs.declared.DayStart.{DayStart}
 use Rattle.stamp.specs.declared.DaySpan.{DaySpan}
-use Rattle.stamp.specs.declared.InstantAnswer.{InstantAnswer}
-use Rattle.stamp.specs.declared.MarkedInstant.{MarkedInstant}
 use Rattle.stamp.specs.Scales.{offsets_of}
 use Rattle.stamp.specs.Days.{day_start, day_on}
-use Rattle.stamp.specs.Marks.{marked_instant, instant_on_marked}
+use Rattle.stamp.specs.Marks.{instant_on_marked}
 use Rattle.stamp.proofs.Days.{on_day}
 use Rattle.fraction.specs.Fraction.{is_fraction, is_half, nearest_at, nearest_of}
 use Rattle.fraction.proofs.Fraction.{below_one, nearest_at_lem}
@@ -28,7 +30,7 @@ use Rattle.julian.proofs.read_in.Goals.{Start}
 
 module _ (c : goal.Start) where
   abbrev table : Table
-  table = vouched_to c.args.vouched (tabled c.args.count c.args.months.now c.args.offsets.now)
+  table = c.args.t.now
 
   abbrev o : Offsets
   o = offsets_of table c.args.scale
@@ -39,14 +41,14 @@ module _ (c : goal.Start) where
   abbrev mark : Bool
   mark = beyond_read table c.args.scale p
 
-  marked : {a : InstantAnswer} {m : MarkedInstant} → m ≡ marked_instant a mark → a ≡ read_in table c.args.scale p → m ≡ read_in_marked table c.args.scale p
-  marked e f = e ∙ ap (λ a. marked_instant a mark) f
+  told : {a : Result ℤ Refusal} {m : Marked ℤ} → m ≡ marked a mark → a ≡ read_in table c.args.scale p → m ≡ read_in_marked table c.args.scale p
+  told e f = e ∙ ap (λ a. marked a mark) f
 
   -- past the pair's own tests, the instant of what is read
   answered : is_half p.midnight ≡ true → is_fraction p.fraction ≡ true → midnight_in_years p.midnight ≡ true
-      → {b : DayStart} {u : ℕ} {m : MarkedInstant} → m ≡ instant_on_marked c.args.vouched c.args.scale b u → b ≡ day_start o (day_read o p) → u ≡ micro_read o p → m ≡ read_in_marked table c.args.scale p
+      → {b : DayStart} {u : ℕ} {m : Marked ℤ} → m ≡ instant_on_marked c.args.t.now.vouched c.args.scale b u → b ≡ day_start o (day_read o p) → u ≡ micro_read o p → m ≡ read_in_marked table c.args.scale p
   answered one two three e f g =
-      marked (e ∙ ap₂ (instant_on_marked c.args.vouched c.args.scale) f g)
+      told (e ∙ ap₂ (instant_on_marked c.args.t.now.vouched c.args.scale) f g)
       (passed _ one
       (passed _ two
       (passed _ three (on_day c.args.scale (day_start o (day_read o p)) (micro_read o p) (read_since o p three) (omega (arith, read_less o p, day_range o (day_read o p)))))))
@@ -86,12 +88,12 @@ returns-then-micro-seconds c =
     let q = read_same (o s) (p s) (is_same (o s) (p s) two c.day_on-days.result days c.nearest_of-micro.result c.nearest_of-micro.ensures c.if-micro-seconds.true) in
     answered s one two three c.instant_on.ensures (ap (λ (d : DaySpan). d.this) days ∙ ap (day_start (o s)) (sym q.0)) (micro_is (o s) (p s) two c.day_on-days.result days c.nearest_of-micro.result c.nearest_of-micro.ensures ∙ sym q.1)
 
-pub returns : goal.returns
-returns c =
-    let s = (goal.at.returns c).Start in
+pub returns-else-micro-seconds : goal.returns-else-micro-seconds
+returns-else-micro-seconds c =
+    let s = (goal.at.returns-else-micro-seconds c).Start in
     let one : is_half c.args.date.midnight ≡ true = sym c.is_half.ensures ∙ c.if-not-is_half.false in
     let two : is_fraction c.args.date.fraction ≡ true = sym c.is_fraction.ensures ∙ c.if-not-is_fraction.false in
     let three : midnight_in_years c.args.date.midnight ≡ true = sym c.in_years.ensures ∙ c.if-not-in_years.false in
     let days : c.day_on-days.result ≡ day_on (o s) (day_number (p s).midnight) = days_are (o s) (p s) c.day_on-days.ensures c.day_number.ensures in
     let q = read_next (o s) (p s) (is_next (o s) (p s) two c.day_on-days.result days c.nearest_of-micro.result c.nearest_of-micro.ensures c.if-micro-seconds.false) in
-    answered s one two three c.instant_on-2.ensures (ap (λ (d : DaySpan). d.next) days ∙ ap (day_start (o s)) (sym q.0)) (sym q.1)
+    answered s one two three c.instant_on-else-micro-seconds.ensures (ap (λ (d : DaySpan). d.next) days ∙ ap (day_start (o s)) (sym q.0)) (sym q.1)

@@ -16,6 +16,6 @@ pub slice_bounds-read_bytes-end : goal.slice_bounds-read_bytes-end
 unfolding read_kernel
 slice_bounds-read_bytes-end c = sym (length-take-le limit c.args.s.now (omega arith))
 
-pub returns : goal.returns
+pub returns-else-s-le-LIMIT : goal.returns-else-s-le-LIMIT
 unfolding read_kernel
-returns c = cond_rest _ (lt-leb _ limit c.if-s-le-LIMIT.false) c.read_bytes-2.ensures
+returns-else-s-le-LIMIT c = cond_rest _ (lt-leb _ limit c.if-s-le-LIMIT.false) c.read_bytes-else-s-le-LIMIT.ensures

@@ -1,22 +1,20 @@
 -- Room first, then nothing but pairs, and only then are they stored.
-use native.Mathlib.Omega.{arith}
-use Rattle.lines.proofs.Pairs.{no_room, not_pairs, all_pairs_lem, paired_few}
+use Rattle.std.proofs.Common.{◌≡◌, true, refl, arith}
+use Rattle.lines.proofs.Pairs.{no_room, not_pairs, pairs_digits, all_pairs_lem}
 use Rattle.lines.proofs.hex.Goals as goal
+use Rattle.lines.proofs.hex.Goals.{then-out-size-via-then-out-size, then-out-size-via-else-out-size+then-word-ne0, then-out-size-via-else-out-size+else-word-ne0+then-not-all_hex}
 
-pub returns-then-out-word : goal.returns-then-out-word
-returns-then-out-word c =
-    let a = c.args in no_room a.out.now a.word.now (omega arith)
-
-pub overflow_mul-count_pairs : goal.overflow_mul-count_pairs
-overflow_mul-count_pairs c =
-    omega (arith, c.count_pairs.ensures, paired_few c.args.word.now)
-
-pub returns-then-count_pairs-word : goal.returns-then-count_pairs-word
-returns-then-count_pairs-word c =
-    let a = c.args in
-    not_pairs a.out.now a.word.now (omega arith) c.count_pairs.ensures c.if-count_pairs-word.true
+pub returns-then-out-size : goal.returns-then-out-size
+returns-then-out-size c =
+    let out = c.args.out.now in
+    let word = c.args.word.now in
+    elim c.then-out-size.branch [
+      | then-out-size-via-then-out-size w ↦ no_room out word (omega (arith, w.if-out-size))
+      | then-out-size-via-else-out-size+then-word-ne0 w ↦ not_pairs out word (omega (arith, w.if-out-size)) refl (λ e. omega (arith, e, w.if-word-ne0))
+      | then-out-size-via-else-out-size+else-word-ne0+then-not-all_hex w ↦ not_pairs out word (omega (arith, w.if-out-size)) refl (λ e. let t : w.all_hex.result ≡ true = w.all_hex.ensures.1 (pairs_digits word e) in cc)
+    ]
 
 pub returns : goal.returns
 returns c =
-    let a = c.args in
-    all_pairs_lem a.out.now a.word.now (omega arith) c.count_pairs.ensures c.if-count_pairs-word.false c.unhex.ensures
+    let u = c.unhex.ensures in
+    all_pairs_lem c.args.out.now c.args.word.now (omega arith) refl (omega (arith, u.0)) u

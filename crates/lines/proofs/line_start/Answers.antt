@@ -1,38 +1,29 @@
--- `from` is where line `done` begins, and the lines from there on are those that are left.
-use mathlib.Core.Path.{◌≡◌, refl, ap, ◌∙◌}
-use Prim.Native.Nat.{suc, ◌+◌, ◌-◌}
-use native.Mathlib.Omega.{arith}
-use native.Mathlib.Numerals.{add-one}
-use lib.ListN.{drop}
+-- `from` is where the line begins, and the lines from there on are those that are left.
+use Rattle.std.proofs.Common.{◌≡◌, ◌+◌, ◌-◌, suc, drop, refl, ap, ◌∙◌, add-one, arith}
 use Rattle.lines.specs.Words.{past, line_of, line_start}
 use Rattle.lines.proofs.Lines.{line_next}
 use Rattle.lines.proofs.line_start.Goals as goal
 
-pub loop-done-init : goal.loop-done-init
+pub loop-line-init : goal.loop-line-init
 unfolding line_start
-loop-done-init c =
-    let a = c.args in
-    let z : a.k - 0 ≡ a.k = omega arith in
-    (omega arith, refl, ap (line_of a.s.now) z, omega arith)
+loop-line-init c = let z : c.args.k - 0 ≡ c.args.k = omega arith in (refl, ap (line_of c.args.s.now) z, omega arith)
 
-pub loop-done-preserved : goal.loop-done-preserved
+pub loop-line-preserved : goal.loop-line-preserved
 unfolding line_start
-loop-done-preserved c =
+loop-line-preserved c =
     let s = c.args.s.now in
     let k = c.args.k in
-    let n : suc (k - (c.loop-done.done + 1)) ≡ k - c.loop-done.done = omega arith in
+    let l = c.loop-line in
+    let n : suc (k - (l._line + 1)) ≡ k - l._line = omega arith in
     let e = c.past-from.ensures.0 in (
-      omega arith,
-      rw add-one (e ∙ ap (past 10 s) c.loop-done.invariant.1),
-      rw e (line_next s c.loop-done.from (k - (c.loop-done.done + 1)) ∙ ap (line_of (drop c.loop-done.from s)) n ∙ c.loop-done.invariant.2),
+      rw add-one (e ∙ ap (past 10 s) l.invariant.0),
+      rw e (line_next s l.from (k - (l._line + 1)) ∙ ap (line_of (drop l.from s)) n ∙ l.invariant.1),
       omega arith,
     )
 
-pub returns : goal.returns
+pub returns-clause-s_value : goal.returns-clause-s_value
 unfolding line_of
-returns c =
-    let k = c.args.k in
-    let d : c.loop-done.done ≡ k = omega arith in
-    let z : 0 ≡ k - c.loop-done.done = omega arith in
-    let s = c.args.s.now in
-    record { value = c.loop-done.invariant.1 ∙ ap (line_start s) d; s_value = (ap (line_of (drop c.loop-done.from s)) z ∙ c.loop-done.invariant.2, c.loop-done.invariant.3) }
+returns-clause-s_value c =
+    let l = c.loop-line in
+    let z : 0 ≡ c.args.k - l._line = omega arith in
+    (ap (line_of (drop l.from c.args.s.now)) z ∙ l.invariant.1, l.invariant.2)

@@ -5,6 +5,5 @@ use Rattle.listing.proofs.nth_line.Goals as goal
 
 pub returns : goal.returns
 returns c =
-    let u = c.until-end.ensures in
     let f = c.line_start-from in
-    (part_is 10 c.args.s.now f.result u.value ∙ f.ensures.s_value.0, u.upper_bound.1, u.upper_bound.0 f.ensures.s_value.1)
+    part_is 10 c.args.s.now f.result c.until-end.ensures.value ∙ f.ensures.s_value.0

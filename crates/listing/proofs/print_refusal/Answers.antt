@@ -3,4 +3,4 @@ use Rattle.listing.proofs.Printing.{refusal_placed}
 use Rattle.listing.proofs.print_refusal.Goals as goal
 
 pub returns : goal.returns
-returns c = refusal_placed c.args.out.now c.args.why c.requires c.number_of.ensures c.append-a.ensures c.append_unsigned-b.ensures c.append.ensures
+returns c = refusal_placed c.args.out.now c.args.why c.requires c.from.ensures c.append-a.ensures c.append_unsigned-b.ensures c.append.ensures

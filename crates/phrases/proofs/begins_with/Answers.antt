@@ -1,7 +1,10 @@
 -- The bytes compared are those in front.
-use Rattle.phrases.proofs.Parts.{begins_is}
+use mathlib.Core.Path.{◌∙◌}
+use lib.ListN.{length, take}
+use Rattle.phrases.specs.Parts.{begins_with}
+use Rattle.phrases.proofs.Parts.{same_points}
 use Rattle.phrases.proofs.begins_with.Goals as goal
 
 pub returns : goal.returns
-returns c =
-    begins_is c.same.result c.args.word.now c.args.s.now c.front-k.ensures.value c.same.ensures.0 c.same.ensures.1
+unfolding begins_with
+returns c = c.starts_with.ensures.value ∙ same_points (take (length c.args.word.now) c.args.s.now) c.args.word.now

@@ -7,4 +7,4 @@ use Rattle.phrases.proofs.refuse.Goals as goal
 
 pub returns : goal.returns
 returns c =
-    says_as (ap (λ (k : ℕ). refusing_as k k c.args.given.now) c.number_of-n.ensures) c.refuse_as.ensures
+    says_as (ap (λ (k : ℕ). refusing_as k k c.args.given.now) c.from-n.ensures) c.refuse_as.ensures

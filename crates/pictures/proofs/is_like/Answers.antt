@@ -1,12 +1,18 @@
-use mathlib.Core.Path.{sym, ◌∙◌}
+use mathlib.Core.Path.{◌≡◌, ap}
+use mathlib.Core.Logic.{⊎_elim}
 use native.Mathlib.Omega.{arith}
-use Rattle.pictures.proofs.Patterns.{like_step, like_end}
+use lib.ListN.{length}
+use Rattle.pictures.proofs.Patterns.{like_more, like_none}
 use Rattle.pictures.proofs.is_like.Goals as goal
 
-pub loop-i-preserved : goal.loop-i-preserved
-loop-i-preserved c =
-    (omega arith, rw c.as_shown-fine.ensures (like_step c.args.pattern.now c.args.text.now c.loop-i.fine c.loop-i.i (omega (arith, c.requires)) (omega arith) ∙ c.loop-i.invariant.1))
+pub loop-c-preserved : goal.loop-c-preserved
+loop-c-preserved c =
+    let s = c.in-Some.ensures.steps in
+    (omega (arith, ap length s.0, ap length s.1), rw c.as_shown-fine.ensures (like_more c.loop-c.fine s.0 s.1 c.loop-c.invariant.1))
 
 pub returns : goal.returns
 returns c =
-    sym (like_end c.args.pattern.now c.args.text.now c.loop-i.fine c.loop-i.i (omega (arith, c.requires)) (omega arith)) ∙ c.loop-i.invariant.1
+    let a = c.loop-c.c-iterator.a.rest.now in
+    let b = c.loop-c.c-iterator.b.rest.now in
+    let both : (length a ≡ 0) × (length b ≡ 0) = ⊎_elim (λ q. (q.1.0, omega (arith, q.1.0))) (λ q. (omega (arith, q.1.0), q.1.0)) c.in-None.ensures.steps in
+    like_none c.loop-c.fine a b both.0 both.1 c.loop-c.invariant.1

@@ -10,4 +10,4 @@ pub returns : goal.returns
 unfolding seconds_text
 returns c =
     let z = to_z-of_z c.ranges.z in
-    then (puts_as (ap sign_text z) c.put_sign-a.ensures) (puts_as (ap micros_text (c.magnitude-n.ensures ∙ ap nat_abs z)) c.put_micros.ensures)
+    then (puts_as (ap sign_text z) c.put_sign-a.ensures) (puts_as (ap micros_text (c.unsigned_abs.ensures.value ∙ ap nat_abs z)) c.put_micros.ensures)

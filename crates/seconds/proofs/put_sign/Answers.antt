@@ -8,6 +8,6 @@ pub returns-then-z-lt0 : goal.returns-then-z-lt0
 returns-then-z-lt0 c =
     puts_as (sign_low c.args.z (sign_is c.ranges.z c.if-z-lt0.true)) c.put.ensures
 
-pub returns : goal.returns
-returns c =
-    puts_as (sign_high c.args.z (sign_is c.ranges.z c.if-z-lt0.false)) c.put-2.ensures
+pub returns-else-z-lt0 : goal.returns-else-z-lt0
+returns-else-z-lt0 c =
+    puts_as (sign_high c.args.z (sign_is c.ranges.z c.if-z-lt0.false)) c.put-else-z-lt0.ensures

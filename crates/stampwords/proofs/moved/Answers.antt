@@ -36,6 +36,3 @@ returns-in-On c =
 pub returns-in-Back : goal.returns-in-Back
 returns-in-Back c =
     rw (to_z-of_z c.ranges.x, to_z_pos w64 (few_back (goal.at.returns-in-Back c).In-Back).1, to_z-of_z (back_fits _ c.requires.0 _ (few_back (goal.at.returns-in-Back c).In-Back).0)) (ap (λ (m : Move). moved_by m c.args.x) (sym c.in-Back.is))
-
-pub returns-in-NoMove : goal.returns-in-NoMove
-returns-in-NoMove c = rw (to_z-of_z c.ranges.x) (ap (λ (m : Move). moved_by m c.args.x) (sym c.in-NoMove.is))

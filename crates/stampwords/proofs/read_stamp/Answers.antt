@@ -14,4 +14,4 @@ returns c =
     let a = c.args in
     let s = a.given.now in
     let text = rest_is s c.past-from.result ∙ ap (λ (n : ℕ). drop n s) c.past-from.ensures.0 ∙ past_drops 32 s 0 in
-    c.read_text.ensures ∙ ap₂ (read_text_marked a.t) c.clock_of.ensures text
+    c.read_text.ensures ∙ ap₂ (read_text_marked a.t.now) c.clock_of.ensures text

@@ -9,4 +9,4 @@ use Rattle.stampwords.proofs.say_after.Goals as goal
 pub returns : goal.returns
 returns c =
     let a = c.args in
-    says_as (ap (λ (n : ℕ). moved_reply a.t a.line.now a.given.now (On 1000000) n 0) c.clock_of.ensures) c.say_moved.ensures
+    says_as (ap (λ (n : ℕ). moved_reply a.t.now a.line.now a.given.now (On 1000000) n 0) c.clock_of.ensures) c.say_moved.ensures

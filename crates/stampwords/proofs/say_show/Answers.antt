@@ -9,4 +9,4 @@ use Rattle.stampwords.proofs.say_show.Goals as goal
 pub returns : goal.returns
 returns c =
     let a = c.args in
-    says_as (ap (λ (n : ℕ). moved_reply a.t a.line.now a.given.now (On 0) n 6) c.clock_named.ensures) c.say_moved.ensures
+    says_as (ap (λ (n : ℕ). moved_reply a.t.now a.line.now a.given.now (On 0) n 6) c.clock_named.ensures) c.say_moved.ensures

@@ -13,14 +13,14 @@ use Rattle.tablewords.proofs.load_block.Goals as goal
 pub returns-in_default : goal.returns-in_default
 unfolding load_block
 returns-in_default c =
-    loads_as (cond_rest _ (hex_none c.args.hex.now (sym c.hex-h.ensures.0 ∙ c.in_default.is)) refl) (record { says = c.refuse_as.ensures; table = c.no_table-table.ensures })
+    loads_as (cond_rest _ (hex_none c.args.hex.now (sym c.hex.ensures.0 ∙ c.in_default.is)) refl) (record { says = c.refuse_request.ensures; table = c.empty.ensures })
 
 pub returns : goal.returns
 unfolding load_block
 returns c =
     let x = c.args.hex.now in
-    let g = hex_some x (sym c.hex-h.ensures.0 ∙ c.in-Is.is) in
+    let g = hex_some x (sym c.hex.ensures.0 ∙ c.in-Some.is) in
     let few = paired_few x in
     let n : c.front-k.result ≡ length (paired x) = c.front-k.ensures.value ∙ omega (arith, g.number, g.room) in
-    let v : take c.front-k.result c.hex-h.new.out ≡ paired x = rw (n, c.hex-h.ensures.1) (into_front _ x g.room g.pairs) in
+    let v : take c.front-k.result c.hex.new.out ≡ paired x = rw (n, c.hex.ensures.1) (into_front _ x g.room g.pairs) in
     loads_as (cond_yes _ g.hex (ap (loaded_by x) (c.read_either-read.ensures ∙ ap read_either v))) c.loaded_by.ensures

@@ -9,14 +9,15 @@ use Rattle.digits.proofs.Decimals.{decimal_within}
 use Rattle.phrases.proofs.Parts.{rest_is}
 use Rattle.tablewords.specs.Loading.{month_number, month_given}
 use Rattle.tablewords.proofs.month_given.Goals as goal
+use Rattle.tablewords.proofs.month_given.Goals.{then-s-ne7-via-then-s-ne7, then-s-ne7-via-else-s-ne7+then-s-ne45}
 
 pub returns-then-s-ne7 : goal.returns-then-s-ne7
 unfolding month_given
-returns-then-s-ne7 c = (cond_rest _ (ne_eqb _ _ c.if-s-ne7.true) refl, tt)
-
-pub returns-then-s-ne45 : goal.returns-then-s-ne45
-unfolding month_given
-returns-then-s-ne45 c = (cond_yes _ (eq-eqb _ _ c.if-s-ne7.false) (cond_rest _ (ne_eqb _ _ c.if-s-ne45.true) refl), tt)
+returns-then-s-ne7 c =
+    elim c.then-s-ne7.branch [
+      | then-s-ne7-via-then-s-ne7 w ↦ (cond_rest _ (ne_eqb _ _ w.if-s-ne7.true) refl, tt)
+      | then-s-ne7-via-else-s-ne7+then-s-ne45 w ↦ (cond_yes _ (eq-eqb _ _ w.if-s-ne7.false) (cond_rest _ (ne_eqb _ _ w.if-s-ne45.true) refl), tt)
+    ]
 
 pub slice_bounds-decimal-end : goal.slice_bounds-decimal-end
 slice_bounds-decimal-end c =

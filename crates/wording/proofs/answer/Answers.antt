@@ -6,5 +6,5 @@ use Rattle.wording.proofs.answer.Goals as goal
 pub returns : goal.returns
 unfolding answered
 returns c =
-    let j = c.judged-a.ensures in
+    let j = c.judged.ensures in
     record { says = record { puts = then j.says.puts c.put.ensures; good = j.says.good }; table = j.table }

@@ -7,11 +7,7 @@ use Rattle.wording.specs.Wording.{ask_pass}
 use Rattle.phrases.proofs.Parts.{first_part, second_part}
 use Rattle.wording.proofs.ask_named.Goals as goal
 
-pub slice_bounds-ask_pass-end : goal.slice_bounds-ask_pass-end
-slice_bounds-ask_pass-end c = let u = c.up_to-k in sym (length-take-le u.result c.args.rest.now u.ensures.1)
-
 pub returns : goal.returns
 returns c =
     let a = c.args in
-    let s = a.rest.now in
-    says_as (ap₂ (ask_pass a.t) (first_part (ascii " from ") s c.up_to-k.ensures.0) (second_part (ascii " from ") s c.behind-from.result c.behind-from.ensures.0)) c.ask_pass.ensures
+    says_as (ap₂ (ask_pass a.t.now) c.parts_at.ensures.first c.parts_at.ensures.second) c.ask_pass.ensures

@@ -7,11 +7,7 @@ use Rattle.stampwords.specs.Spans.{pass_reply}
 use Rattle.phrases.proofs.Parts.{first_part, second_part}
 use Rattle.wording.proofs.ask_pass.Goals as goal
 
-pub slice_bounds-say_pass-end : goal.slice_bounds-say_pass-end
-slice_bounds-say_pass-end c = let u = c.up_to-k in sym (length-take-le u.result c.args.stamps.now u.ensures.1)
-
 pub returns : goal.returns
 returns c =
     let a = c.args in
-    let s = a.stamps.now in
-    says_as (ap₂ (pass_reply a.t a.name.now) (first_part (ascii " to ") s c.up_to-k.ensures.0) (second_part (ascii " to ") s c.behind-from.result c.behind-from.ensures.0)) c.say_pass.ensures
+    says_as (ap₂ (pass_reply a.t.now a.name.now) c.parts_at.ensures.first c.parts_at.ensures.second) c.say_pass.ensures

@@ -52,7 +52,7 @@ unfolding requested
 returns-then-begins_with-4 c =
     let a = c.args in
     loads_as
-    (cond_rest _ (no_block (goal.at.returns-then-begins_with-4 c).Else-begins_with) (cond_rest _ (no_kernel (goal.at.returns-then-begins_with-4 c).Else-begins_with-2) (cond_rest _ (no_cards (goal.at.returns-then-begins_with-4 c).Else-begins_with-3) (cond_yes _ (sym c.begins_with-4.ensures ∙ c.if-begins_with-4.true) (ap (vouch a.t) (tail_is 8 a.line.now c.front-from-then-begins_with-4.result c.front-from-then-begins_with-4.ensures.value))))))
+    (cond_rest _ (no_block (goal.at.returns-then-begins_with-4 c).Else-begins_with) (cond_rest _ (no_kernel (goal.at.returns-then-begins_with-4 c).Else-begins_with-2) (cond_rest _ (no_cards (goal.at.returns-then-begins_with-4 c).Else-begins_with-3) (cond_yes _ (sym c.begins_with-4.ensures ∙ c.if-begins_with-4.true) (ap (vouch a.t.now) (tail_is 8 a.line.now c.front-from-then-begins_with-4.result c.front-from-then-begins_with-4.ensures.value))))))
     c.vouch.ensures
 
 pub returns : goal.returns
@@ -60,4 +60,4 @@ unfolding requested
 returns c =
     loads_as
     (cond_rest _ (no_block (goal.at.returns c).Else-begins_with) (cond_rest _ (no_kernel (goal.at.returns c).Else-begins_with-2) (cond_rest _ (no_cards (goal.at.returns c).Else-begins_with-3) (cond_rest _ (sym c.begins_with-4.ensures ∙ c.if-begins_with-4.false) refl))))
-    (record { says = c.reply-said.ensures; table = refl })
+    (record { says = c.reply.ensures; table = refl })

@@ -17,8 +17,8 @@ pub returns-then-line-gt1024 : goal.returns-then-line-gt1024
 unfolding judged
 returns-then-line-gt1024 c =
     let s = c.args.line.now in
-    loads_as (cond_rest _ (lt-leb (length s) 1024 c.if-line-gt1024.true) (ap (λ (g : List ℕ). leaving c.args.t (refusing_as 8 long_line g)) (head_is 40 s c.front-k.ensures.value)))
-    (record { says = c.refuse_as-said.ensures; table = refl })
+    loads_as (cond_rest _ (lt-leb (length s) 1024 c.if-line-gt1024.true) (ap (λ (g : List ℕ). leaving c.args.t.now (refusing_as 8 long_line g)) (head_is 40 s c.front-k.ensures.value)))
+    (record { says = c.refuse_request.ensures; table = refl })
 
 pub returns : goal.returns
 unfolding judged

@@ -14,4 +14,4 @@ pub returns : goal.returns
 returns c =
     let a = c.args in
     puts_as (cond_rest _ (ne_eqb a.bad 0 c.if-bad-eq0.false) refl)
-    (then c.put-a.ensures (then (puts_as (ap (numbers_text a.first.now) c.told.ensures.0) c.put_numbers-b.ensures) c.put_more.ensures))
+    (then c.put-a.ensures (then (puts_as (ap (numbers_text a.first.now) c.min.ensures) c.put_numbers-b.ensures) c.put_more.ensures))

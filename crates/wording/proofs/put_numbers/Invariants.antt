@@ -1,10 +1,6 @@
-use Prim.Native.Nat.{◌-◌, ◌≤◌}
 use Rattle.phrases.specs.Puts.{Puts}
 use Rattle.wording.specs.Summary.{numbers_text}
 use Rattle.wording.proofs.put_numbers.Given as goal
 
 abbrev pub invariant-loop-i : goal.invariant-loop-i
-invariant-loop-i l = (l.i ≤ l.n) × Puts l.initial.out l.initial.next (numbers_text l.numbers l.i) l.next l.out
-
-abbrev pub decreases-loop-i : goal.decreases-loop-i
-decreases-loop-i l = l.n - l.i
+invariant-loop-i l = Puts l.initial.out l.initial.next (numbers_text l.numbers l.i) l.next l.out

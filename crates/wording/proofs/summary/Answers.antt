@@ -8,4 +8,4 @@ use Rattle.wording.proofs.summary.Goals as goal
 pub returns : goal.returns
 unfolding summary_text
 returns c =
-    then (puts_as (ap decimal_text c.less.ensures) c.put_unsigned-a.ensures) (then c.put-b.ensures (then c.put_unsigned-c.ensures (then c.put-d.ensures (then c.put_bad-e.ensures c.put.ensures))))
+    then (puts_as (ap decimal_text c.saturating_sub.ensures) c.put_unsigned-a.ensures) (then c.put-b.ensures (then c.put_unsigned-c.ensures (then c.put-d.ensures (then c.put_bad-e.ensures c.put.ensures))))

@@ -22,12 +22,12 @@ pub loop-k-init : goal.loop-k-init
 loop-k-init c = laid_none (replicate 64 (pos 0)) 0 (map offset_from (words_at 65 64 c.args.words.now)) (omega (arith, long c.args.words.now))
 
 pub loop-k-preserved : goal.loop-k-preserved
-loop-k-preserved c = let t = c in
-    let p = t in
-    let words = p.args.words.now in
-    laid_first (pos 0) p.loop-k.invariant (omega (arith, long words))
-    (to_z-of_z {w = w32} (record { sfits = c.offset_of.type_inv }) ∙ c.offset_of.ensures ∙ sym (offset_at words p.loop-k.k t.loop-k-test.true))
+loop-k-preserved c =
+    let words = c.args.words.now in
+    laid_first (pos 0) c.loop-k.invariant (omega (arith, long words))
+    (to_z-of_z {w = w32} (record { sfits = c.cast_signed.type_inv }) ∙ c.cast_signed.ensures ∙ sym (offset_at words c.loop-k.k c.loop-k-test.true))
 
 pub returns : goal.returns
-returns c = let words = c.args.words.now in
+returns c =
+    let words = c.args.words.now in
     laid_all c.loop-k.invariant (omega (arith, long words)) ∙ place_whole (replicate 64 (pos 0)) (map offset_from (words_at 65 64 words)) (long words)

@@ -1,5 +1,4 @@
 use mathlib.Core.List.{map}
-use Prim.Native.Nat.{◌-◌}
 use lib.IntN.{pos}
 use lib.ListN.{replicate}
 use Rattle.words.specs.Words.{words_at, offset_from}
@@ -8,6 +7,3 @@ use Rattle.words.proofs.offsets_of.Given as goal
 
 abbrev pub invariant-loop-k : goal.invariant-loop-k
 invariant-loop-k l = Laid (replicate 64 (pos 0)) 0 (map offset_from (words_at 65 64 l.words)) l.offsets l.k
-
-abbrev pub decreases-loop-k : goal.decreases-loop-k
-decreases-loop-k l = 64 - l.k
