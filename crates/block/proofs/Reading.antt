@@ -77,7 +77,7 @@ pub record Reading (s : List ℕ) (whole : Outcome) (v count : ℕ) (months : Li
   pub few : count ≤ 64
   pub placed : at ≤ length s
   pub early : last.0 ≤ last_entry_month
-  pub near : mag last.1 ≤ 10 + k
+  pub near : mag last.1 ≤ 9 + k
 
 module _ {s : List ℕ} {whole : Outcome} {v count : ℕ} {months : List ℕ} {offsets : List ℤ} {at k : ℕ} (h : Reading s whole v count months offsets at k) where
   -- the entry that the arrays have last

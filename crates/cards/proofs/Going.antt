@@ -187,7 +187,7 @@ module _ {s : List ℕ} {d : Deck} {i : ℕ} (h : Going s d i) where
               inside = omega arith;
             }
 
-        on_full : 64 ≤ count → Going s (record { table = crowded d.table; falling = ltb m d.last; last = m }) next
+        pub on_full : 64 ≤ count → Going s (record { table = crowded d.table; falling = ltb m d.last; last = m }) next
         on_full k = record {
           es = h.es ++ new ∷ [];
           ps = h.ps ++ (m, o) ∷ [];

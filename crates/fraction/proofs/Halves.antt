@@ -80,7 +80,7 @@ module _ (b x : ℕ) (is : x ≡ field_of b) where
   high g = by_order x 2047 (whole g) (λ l. only_real v (not_real b x is l))
 
   -- the digits' last 1075 - x bits are the rest
-  middle : 1022 ≤ x → x ≤ 1074 → eqb (digits_of b % 2 ^ (1075 - x)) (2 ^ (1074 - x)) ≡ is_half (of_bits binary64 b)
+  pub middle : 1022 ≤ x → x ≤ 1074 → eqb (digits_of b % 2 ^ (1075 - x)) (2 ^ (1074 - x)) ≡ is_half (of_bits binary64 b)
   middle l h =
       let t = 1075 - x in
       let q = digits_of b in

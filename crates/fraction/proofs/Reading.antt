@@ -12,7 +12,7 @@ use Rattle.fraction.proofs.Pattern.{smaller, pattern, by_digits}
 
 -- ---- what the shift leaves of the product of digits and factor fits
 
-pub halves_few : (q f t : ℕ) → q < 2 ^ 53 → f < 2 ^ 37 → 26 ≤ t → q * f / 2 ^ t < 2 ^ 64
+pub halves_few : (q f t : ℕ) → q < 2 ^ 53 → f < 2 ^ 37 → 26 ≤ t → q * f / 2 ^ t + 1 < 2 ^ 64
 halves_few q f t h k l =
     let q' : q ≤ 2 ^ 53 - 1 = omega arith in
     let f' : f ≤ 2 ^ 37 - 1 = omega arith in

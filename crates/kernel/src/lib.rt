@@ -58,10 +58,7 @@ fn settle(whole: bool, n: usize, mode: Mode, t: &Table) -> Result<Table, Fault>
     if may_end(mode) && whole && 0 < t.count {
         return leap::judge(t);
     }
-    Err(Fault {
-        why: Refusal::Kernel,
-        at: place_of(n, mode),
-    })
+    leap::refused_at(Refusal::Kernel, place_of(n, mode))
 }
 
 // A pair is entered right behind its date; from 65 on pairs are no longer counted, since no table has so many.

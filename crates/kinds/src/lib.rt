@@ -43,7 +43,7 @@ pub fn is_name(b: u8) -> bool
 // More bytes than a word of a kernel has: it stands for any other word.
 pub const OTHER: usize = 16;
 
-// Nothing calls it any more, since an `if` says it. It stays because `SettledKinds` of `promises` settles it by name.
+// The first of two letters where the test holds, else the other.
 pub fn pick(test: bool, yes: u8, other: u8) -> u8
     ensures { result ≡ cond test yes other }
 {
@@ -120,11 +120,9 @@ fn goes_on(from: u8, k: usize, c: u8, m: u8) -> bool
 {
     let name = digits::month_name(u32::from(m));
     let begun = digits::month_name(u32::from(from));
-    match k {
-        0 => name[0] == c,
-        1 => name[0] == begun[0] && name[1] == c,
-        _ => name[0] == begun[0] && name[1] == begun[1] && name[2] == c,
-    }
+    let first = name[0] == pick(k == 0, c, begun[0]);
+    let second = name[1] == pick(k == 1, c, begun[1]);
+    first && (k == 0 || second && (k == 1 || name[2] == c))
 }
 
 // The last month whose name goes on from the first k letters of `from` with c; 0 for none, as `month_on` of specs/ says.

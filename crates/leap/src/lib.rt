@@ -6,7 +6,7 @@ mod bulletin;
 ghost use Rattle.std.specs.Prelude.{◌≡◌, ◌≤◌, ◌<◌, ◌+◌, leb};
 ghost use Rattle.std.proofs.Math.IntN.{suc_ℤ};
 ghost use Rattle.laws.specs.Tests.{eq_z, all_below};
-ghost use Rattle.leap.specs.Readers.{no_table, judged};
+ghost use Rattle.leap.specs.Readers.{no_table, found, refused_at, judged};
 ghost use Rattle.leap.specs.Leap.{tabled, vouched_to, one_apart, first_right, later_right, unused_right, place_right, vouched_right, accepted, epoch, last_begun, offset_at, near_at, top, beyond, bulletin_c};
 
 use answer::{Fault, Refusal};
@@ -125,14 +125,27 @@ impl Table {
     }
 }
 
+// What a reader of tables answers: the table that it found, or a refusal with its place.
+pub fn found(t: &Table) -> Result<Table, Fault>
+    ensures { result ≡ found t.now }
+{
+    Ok(*t)
+}
+
+pub fn refused_at(why: Refusal, at: usize) -> Result<Table, Fault>
+    ensures { result ≡ refused_at why at }
+{
+    Err(Fault { why, at })
+}
+
 // A table that was read, judged: an accepted one is the answer, another is refused without a place.
 pub fn judge(t: &Table) -> Result<Table, Fault>
     ensures { result ≡ judged t.now }
 {
     if t.is_accepted() {
-        return Ok(*t);
+        return found(t);
     }
-    Err(Fault::from(Refusal::Table))
+    refused_at(Refusal::Table, 0)
 }
 
 // ---- one place of a table

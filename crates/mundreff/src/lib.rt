@@ -188,10 +188,18 @@ fn give_pair(a: Marked<JulianDate>, midnight: &mut f64, fraction: &mut f64, mark
 fn give_table(a: Result<Table, Fault>, place: &mut usize, table: &mut [u32; 130]) -> u32
     ensures { (result, place.new, table.new) ≡ table_numbers a }
 {
-    let (number, at, t) = given_at(a, Table::empty());
-    *place = at;
-    store_table(&t, table);
-    number
+    match a {
+        Ok(t) => {
+            *place = 0;
+            store_table(&t, table);
+            0
+        }
+        Err(Fault { why, at }) => {
+            *place = at;
+            store_table(&Table::empty(), table);
+            u32::from(why)
+        }
+    }
 }
 
 fn give_move(a: Result<usize, Fault>, place: &mut usize, length: &mut usize) -> u32

@@ -84,7 +84,7 @@ again (b ∷ l) a e =
 low_bits : (b : ℕ) → is_digit b ≡ true → b % 16 ≡ digit_value b
 low_bits b e = omega (arith, digit_range b e, value_digit b e)
 
-one_low : (s : List ℕ) (i : ℕ) → Digits s i 1 → get_or s i 0 % 16 ≡ number_at s i 1
+pub one_low : (s : List ℕ) (i : ℕ) → Digits s i 1 → get_or s i 0 % 16 ≡ number_at s i 1
 unfolding spelled all_digits
 one_low s i d = omega (arith, low_bits (get_or s i 0) (and_l _ true d.all))
 
@@ -98,10 +98,10 @@ digits_both s i (suc w) v e =
     let j : i + 1 + w ≡ i + suc w = omega arith in
     (join p.0 r.0, subst (λ (k : ℕ). all_digits (bytes_at s k v) ≡ true) j r.1)
 
-digits_front : {s : List ℕ} {i : ℕ} (w v : ℕ) → Digits s i (w + v) → Digits s i w
+pub digits_front : {s : List ℕ} {i : ℕ} (w v : ℕ) → Digits s i (w + v) → Digits s i w
 digits_front {s} {i} w v d = record { inside = omega (arith, d.inside); all = (digits_both s i w v d.all).0 }
 
-digits_end : {s : List ℕ} {i : ℕ} (w v : ℕ) → Digits s i (w + v) → Digits s (i + w) v
+pub digits_end : {s : List ℕ} {i : ℕ} (w v : ℕ) → Digits s i (w + v) → Digits s (i + w) v
 digits_end {s} {i} w v d = record { inside = omega (arith, d.inside); all = (digits_both s i w v d.all).1 }
 
 -- one digit more

@@ -40,6 +40,7 @@ settled_parts =
       write = λ bytes out k. each;
       tabled = λ count months offsets vouched k. equal;
       no_table_lem = λ k. equal;
+      refused_at_lem = λ why at k. equal;
       days_before_lem = λ m k. equal;
       month_length_lem = λ m k. equal;
       month_of_day_lem = λ day k. equal;
@@ -58,6 +59,7 @@ settled_parts =
       scale_numbered = λ n k. equal;
       scale_number_lem = λ s k. equal;
       scale_known_lem = λ n k. equal;
+      refused_instant = λ why k. equal;
       beyond_on_lem = λ s v m k. equal;
       instant_on = λ s v day micro k. equal;
       fraction_of_lem = λ part whole k. equal;
@@ -76,6 +78,7 @@ settled_marks T laws copied cloned dict = record { new = λ a b k lasts. there l
 pub settled_tables : (t : Shown Table) → SettledTables t
 settled_tables t =
     record {
+      found = λ k. equal;
       is_accepted = λ k. equal;
       judge = λ k. equal;
       offset_at = λ m k. equal;

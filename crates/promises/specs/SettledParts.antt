@@ -24,7 +24,7 @@ use Rattle.calendar.specs.Days.{day_of_year}
 use Rattle.calendar.specs.Dates.{span_of_day, date_in_year}
 use Rattle.leap.specs.declared.Table.{Table}
 use Rattle.leap.specs.Leap.{tabled, vouched_to, vouched_right, accepted, offset_at, near_at, beyond}
-use Rattle.leap.specs.Readers.{no_table, judged as judged_table}
+use Rattle.leap.specs.Readers.{no_table, found, refused_at, judged as judged_table}
 use Rattle.block.specs.Reading.{read_either}
 use Rattle.labels.specs.declared.Label.{Label}
 use Rattle.labels.specs.declared.Reading.{Reading}
@@ -79,6 +79,8 @@ use Rattle.calendar.proofs.day_of_year.Reads as calendar_day_of_year
 use Rattle.calendar.proofs.date_in_year.Reads as calendar_date_in_year
 use Rattle.leap.proofs.Table.new.Reads as leap_tabled
 use Rattle.leap.proofs.Table.empty.Reads as leap_empty
+use Rattle.leap.proofs.found.Reads as leap_found
+use Rattle.leap.proofs.refused_at.Reads as leap_refused_at
 use Rattle.leap.proofs.judge.Reads as leap_judge
 use Rattle.leap.proofs.Table.is_accepted.Reads as leap_is_accepted
 use Rattle.leap.proofs.vouched_right.Reads as leap_vouched_right
@@ -95,6 +97,7 @@ use Rattle.labels.proofs.day_of.Reads as labels_day_of
 use Rattle.labels.proofs.label_of.Reads as labels_label_of
 use Rattle.stamp.proofs.Scale.numbered.Reads as stamp_scale_numbered
 use Rattle.stamp.proofs.U32FromScale.from.Reads as stamp_scale_number
+use Rattle.stamp.proofs.refused_instant.Reads as stamp_refused_instant
 use Rattle.stamp.proofs.Scale.beyond_on.Reads as stamp_beyond_on
 use Rattle.stamp.proofs.ScaleTryFromU32.try_from.Reads as stamp_scale_known
 use Rattle.stamp.proofs.asked.Reads as stamp_asked
@@ -160,6 +163,7 @@ pub record SettledParts : Type 0 where
   pub tabled : (count : ℕ) (months : List ℕ) (offsets : List ℤ) (vouched : ℕ) →
       Returns leap_tabled.Pre leap_tabled.Post (count & months & offsets & vouched & tt) (vouched_to vouched (tabled count months offsets))
   pub no_table_lem : Returns leap_empty.Pre leap_empty.Post tt no_table
+  pub refused_at_lem : (why : Refusal) (at : ℕ) → Returns leap_refused_at.Pre leap_refused_at.Post (why & at & tt) (refused_at why at)
   pub days_before_lem : (m : ℕ) → Returns months_days_before.Pre months_days_before.Post (m & tt) (days_before m)
   pub month_length_lem : (m : ℕ) → Returns calendar_month_length.Pre calendar_month_length.Post (m & tt) (month_length m)
   pub month_of_day_lem : (day : ℕ) → Returns calendar_month_of_day.Pre calendar_month_of_day.Post (day & tt) (span_of_day day)
@@ -178,6 +182,7 @@ pub record SettledParts : Type 0 where
   pub scale_numbered : (k : ℕ) → Returns stamp_scale_numbered.Pre stamp_scale_numbered.Post (k & tt) (scale_of k)
   pub scale_number_lem : (s : Scale) → Returns stamp_scale_number.Pre stamp_scale_number.Post (s & tt) (scale_number s)
   pub scale_known_lem : (k : ℕ) → Returns stamp_scale_known.Pre stamp_scale_known.Post (k & tt) (scale_known k)
+  pub refused_instant : (why : Refusal) → Returns stamp_refused_instant.Pre stamp_refused_instant.Post (why & tt) (marked (Err why) false)
   pub beyond_on_lem : (s : Scale) (v m : ℕ) → Returns stamp_beyond_on.Pre stamp_beyond_on.Post (s & v & m & tt) (beyond_on v s m)
   pub instant_on : (s : Scale) (v : ℕ) (day : DayStart) (micro : ℕ) → Returns stamp_instant_on.Pre stamp_instant_on.Post (s & v & day & micro & tt) (instant_on_marked v s day micro)
   pub fraction_of_lem : (part whole : ℕ) → Returns fraction_fraction_of.Pre fraction_fraction_of.Post (part & whole & tt) (fraction_of whole part)
@@ -201,6 +206,7 @@ module _ (T : RattleType) (laws : Laws T) (copied : IsCopy T) (cloned : CloneGho
 -- what is asked of a table that is lent
 module _ (t : Shown Table) where
   pub record SettledTables : Type 0 where
+    pub found : Returns leap_found.Pre leap_found.Post (t & tt) (found t.now)
     pub is_accepted : Returns leap_is_accepted.Pre leap_is_accepted.Post (t & tt) (accepted t.now)
     pub judge : Returns leap_judge.Pre leap_judge.Post (t & tt) (judged_table t.now)
     pub offset_at : (m : ℕ) → Returns leap_offset_at.Pre leap_offset_at.Post (t & m & tt) (offset_at t.now m)

@@ -2,8 +2,9 @@
 // An instant is a count of TAI microseconds from 2000-01-01 12:00:00 TAI; a scale's own axis counts microseconds from year 0.
 #![tactic(auto)]
 
-ghost use Rattle.std.specs.Prelude.{◌≡◌, true, [], ◌∷◌, ◌+◌, ◌*◌, ◌/◌, ◌≤◌, pos, negsuc, ◌-ℤ◌, ◌≤ℤ◌, Err, Ok};
+ghost use Rattle.std.specs.Prelude.{◌≡◌, true, false, [], ◌∷◌, ◌+◌, ◌*◌, ◌/◌, ◌≤◌, pos, negsuc, ◌-ℤ◌, ◌≤ℤ◌, Err, Ok};
 ghost use Rattle.answer.specs.declared.Refusal.TheVariants.{NoSecond as NOSECOND};
+ghost use Rattle.answer.specs.Marks.{marked};
 ghost use Rattle.answer.specs.Refusals.{refusing};
 ghost use Rattle.leap.specs.Leap.{accepted};
 ghost use Rattle.months.specs.Months.{days_before};
@@ -425,7 +426,7 @@ impl Scale {
             offset,
         } = day;
         if number < Scale::FIRST_DAY || Scale::LAST_DAY < number || Scale::LONGEST < micro {
-            return Marked::refused(Refusal::Range);
+            return refused_instant(Refusal::Range);
         }
         let instant = self.instant(Scale::DAY * number + micro, offset);
         Marked::new(Ok(instant), self.beyond_on(vouched, month))
@@ -492,6 +493,13 @@ impl Moment {
 
 // ---- the calls: an answer has its mark beside it, and so no `?`
 
+// A refusal in the place of an instant has no mark.
+pub fn refused_instant(why: Refusal) -> Marked<i64>
+    ensures { result ≡ marked (Err why) false }
+{
+    Marked::refused(why)
+}
+
 pub fn instant_of(t: &Table, scale: u32, r: Reading) -> Marked<i64>
     ensures { result ≡ instant_of_marked t.now scale r }
 {
@@ -500,7 +508,7 @@ pub fn instant_of(t: &Table, scale: u32, r: Reading) -> Marked<i64>
             let beyond = s.beyond_on(t.vouched, labels::month_of(r.label));
             Marked::new(s.instant_in(t, r), beyond)
         }
-        Err(why) => Marked::refused(why),
+        Err(why) => refused_instant(why),
     }
 }
 

@@ -38,14 +38,15 @@ pub fn table_of(words: &[u32; 130]) -> Table
 
 // ---- and back
 
-fn store_months(months: &[u32; 64], out: &mut [u32; 130])
-    ensures { out.new ≡ place out.old 1 months.now }
+// Arrays by value: of lent ones the compiler does not see that they lie apart from `out`, calls memmove and compares addresses.
+fn store_months(months: [u32; 64], out: &mut [u32; 130])
+    ensures { out.new ≡ place out.old 1 months }
 {
-    out[1..65].copy_from_slice(months);
+    out[1..65].copy_from_slice(&months);
 }
 
-fn store_offsets(offsets: &[i32; 64], out: &mut [u32; 130])
-    ensures { out.new ≡ place out.old 65 (map offset_word offsets.now) }
+fn store_offsets(offsets: [i32; 64], out: &mut [u32; 130])
+    ensures { out.new ≡ place out.old 65 (map offset_word offsets) }
 {
     for k in 0..64 {
         out[65 + k] = offsets[k].cast_unsigned();
@@ -57,7 +58,7 @@ pub fn store_table(t: &Table, out: &mut [u32; 130])
     ensures { out.new ≡ table_words t.now }
 {
     out[0] = (t.count % 4294967296) as u32;
-    store_months(&t.months, out);
-    store_offsets(&t.offsets, out);
+    store_months(t.months, out);
+    store_offsets(t.offsets, out);
     out[129] = t.vouched;
 }

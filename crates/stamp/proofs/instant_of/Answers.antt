@@ -34,4 +34,4 @@ returns-in-Ok c =
     ∙ answered (goal.at.returns-in-Ok c).After-asked c.in-Ok.is
 
 pub returns-in-Err : goal.returns-in-Err
-returns-in-Err c = c.refused.ensures ∙ answered (goal.at.returns-in-Err c).After-asked c.in-Err.is
+returns-in-Err c = c.refused_instant.ensures ∙ answered (goal.at.returns-in-Err c).After-asked c.in-Err.is

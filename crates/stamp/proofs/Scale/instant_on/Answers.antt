@@ -66,7 +66,7 @@ returns-then-number-lt-FIRST_DAY c =
       | then-number-lt-FIRST_DAY-via-else-number-lt-FIRST_DAY+then-number-gt-LAST_DAY w ↦ late s w.if-number-lt-FIRST_DAY.false w.if-number-gt-LAST_DAY.true
       | then-number-lt-FIRST_DAY-via-else-number-lt-FIRST_DAY+else-number-gt-LAST_DAY+then-micro-gt-LONGEST w ↦ long s w.if-number-lt-FIRST_DAY.false w.if-number-gt-LAST_DAY.false w.if-micro-gt-LONGEST.true
     ] in
-    c.refused.ensures ∙ ap (of_day s) outside
+    c.refused_instant.ensures ∙ ap (of_day s) outside
 
 pub returns : goal.returns
 unfolding answer
